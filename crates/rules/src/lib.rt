@@ -78,30 +78,51 @@ pub struct Counted {
 
 // The limits (01.Take.5, 01.Frame.3).
 pub const MAX_SIDE: usize = 640;
+
 pub const MAX_TAPS: usize = 63;
+
 pub const MAX_KERNEL: usize = 15;
+
 pub const MAX_WINDOW: usize = 15;
+
 pub const MAX_THRESHOLD: f32 = 255.0;
+
 pub const MAX_FRAME_SIDE: usize = 48;
+
 pub const MAX_FRAME_LENGTH: usize = 2588;
 
 // The refusal numbers (01.Refusal.1 to 01.Refusal.12).
 pub const ACCEPTED: u8 = 0;
+
 pub const REFUSED_SIDE: u8 = 1;
+
 pub const REFUSED_INPUT: u8 = 2;
+
 pub const REFUSED_COUNT: u8 = 3;
+
 pub const REFUSED_WEIGHT: u8 = 4;
+
 pub const REFUSED_THRESHOLD: u8 = 5;
+
 pub const REFUSED_ORDER: u8 = 6;
+
 pub const REFUSED_ROOM: u8 = 7;
+
 pub const REFUSED_BUDGET: u8 = 8;
+
 pub const REFUSED_STATE: u8 = 9;
+
 pub const REFUSED_PENDING: u8 = 10;
+
 pub const REFUSED_LAYOUT: u8 = 11;
 
 // The marks of a walk (01.Walk.2), and the map's entry at a finished pixel.
 pub const MARK_NONE: u8 = 0;
+
 pub const MARK_WEAK: u8 = 1;
+
 pub const MARK_PENDING: u8 = 2;
+
 pub const MARK_FINISHED: u8 = 3;
+
 pub const EDGE: u8 = 255;

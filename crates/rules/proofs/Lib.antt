@@ -1,0 +1,11 @@
+-- The shared laws: facts about document 01's definitions that the proofs of every crate cite. Each stands once.
+pub mod Bools
+pub mod Fill
+pub mod Sums
+pub mod Tests
+pub mod Stores
+pub mod Tallies
+pub mod Rows
+pub mod Grid
+pub mod Border
+pub mod Signed
