@@ -2,7 +2,9 @@
 use Prim.Native.Nat.{ℕ, zero, suc, _+_, _-_, _*_, _/_, _%_}
 use mathlib.Core.Bool.{Bool, cond, _||_}
 use mathlib.Core.Option.{Option, some, none}
+use mathlib.Core.List.{List}
 use lib.Dec.{ltb, eqb}
+use lib.ListN.{getD}
 use lib.IntN.{ℤ, pos, negsuc, _-ℤ_}
 use Rattle.rules.specs.Limits.{maxSide}
 use Rattle.rules.specs.declared.Size.{Size}
@@ -58,6 +60,10 @@ entryAt z at width Refused c = z
 unfoldable pub sampleAt {ℓ} : {A : Type ℓ} → A → (ℕ → A) → Size → BorderMode → ℤ → ℤ → A
 sampleAt z at d mode cx cy =
     entryAt z at (d .width) (resolved mode cx (d .width)) (resolved mode cy (d .height))
+
+-- of a byte picture, as a whole number
+abbrev pub byteSample : List ℕ → Size → BorderMode → ℤ → ℤ → ℕ
+byteSample pixels d mode cx cy = sampleAt 0 (λ i. getD pixels i 0) d mode cx cy
 
 -- the coordinate under place k of n, where a window of n places lies centred on x
 abbrev pub under : ℕ → ℕ → ℕ → ℤ

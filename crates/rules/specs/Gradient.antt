@@ -3,7 +3,7 @@ use Prim.Native.Nat.{ℕ, zero, suc, _+_, _*_, _/_, _%_}
 use mathlib.Core.List.{List, [], _∷_}
 use lib.ListN.{getD}
 use lib.IntN.{ℤ, pos, negsuc, negℤ, natAbs, _+ℤ_, _*ℤ_}
-use Rattle.rules.specs.Border.{sampleAt, under}
+use Rattle.rules.specs.Border.{byteSample, under}
 use Rattle.rules.specs.declared.Size.{Size}
 use Rattle.rules.specs.declared.BorderMode.{BorderMode}
 
@@ -30,7 +30,7 @@ sumZ t (suc k) = sumZ t k +ℤ t k
 -- a component at (x, y): the nine bytes about it, weighted
 unfoldable pub gradientTerm : List ℤ → Size → BorderMode → List ℕ → ℕ → ℕ → ℕ → ℤ
 gradientTerm table d mode pixels x y j =
-    getD table j (pos 0) *ℤ pos (sampleAt 0 (λ i. getD pixels i 0) d mode (under x 3 (j % 3)) (under y 3 (j / 3)))
+    getD table j (pos 0) *ℤ pos (byteSample pixels d mode (under x 3 (j % 3)) (under y 3 (j / 3)))
 
 unfoldable pub gradientAt : List ℤ → Size → BorderMode → List ℕ → ℕ → ℕ → ℤ
 gradientAt table d mode pixels x y = sumZ (gradientTerm table d mode pixels x y) 9

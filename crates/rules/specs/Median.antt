@@ -6,7 +6,7 @@ use mathlib.Core.List.{List, [], _∷_}
 use lib.Dec.{leb, eqb}
 use lib.ListN.{length, getD}
 use Rattle.rules.specs.Picture.{tabulate, bit}
-use Rattle.rules.specs.Border.{sampleAt, under}
+use Rattle.rules.specs.Border.{byteSample, under}
 use Rattle.rules.specs.declared.Size.{Size}
 use Rattle.rules.specs.declared.BorderMode.{BorderMode}
 
@@ -33,7 +33,7 @@ sorted (a ∷ l) = insert a (sorted l)
 -- The k by k samples about (x, y), outside samples 0 under Zero; k is odd.
 unfoldable pub windowAt : Size → ℕ → BorderMode → List ℕ → ℕ → ℕ → List ℕ
 windowAt d k mode pixels x y =
-    tabulate (k * k) (λ j. sampleAt 0 (λ i. getD pixels i 0) d mode (under x k (j % k)) (under y k (j / k)))
+    tabulate (k * k) (λ j. byteSample pixels d mode (under x k (j % k)) (under y k (j / k)))
 
 -- item k * k / 2 of the sorted window, counted from 0
 unfoldable pub medianAt : Size → ℕ → BorderMode → List ℕ → ℕ → ℕ → ℕ

@@ -1,0 +1,3 @@
+-- Laws about this crate's code that several of its proofs cite.
+pub mod Resolving
+pub mod Sampling

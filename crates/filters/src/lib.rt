@@ -1,0 +1,2 @@
+// The filters of silvestre, one module a file of the Rust's filters/. Each public call refuses by number or runs by document 01's rules.
+pub mod convolution;
