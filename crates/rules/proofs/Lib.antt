@@ -2,6 +2,7 @@
 pub mod Bools
 pub mod Fill
 pub mod Sums
+pub mod Bytes
 pub mod Tests
 pub mod Stores
 pub mod Tallies

@@ -1,5 +1,5 @@
 -- The ordered f32 sum, the flipped weight, and the conversion of an f32 to a byte.
-use Prim.Native.Nat.{ℕ, zero, suc, _+_, _-_, _*_, _/_, min}
+use Prim.Native.Nat.{ℕ, zero, suc, _+_, _-_, _*_, _/_, _≤_, _<_, min}
 use mathlib.Core.Bool.{Bool, true, false}
 use mathlib.Core.List.{List}
 use lib.ListN.{getD}
@@ -34,6 +34,11 @@ flipped k weights x y = getD weights ((k .height - 1 - y) * k .width + (k .width
 -- the whole number nearest to a / c, halves upwards
 abbrev pub nearestWhole : ℕ → ℕ → ℕ
 nearestWhole a c = (2 * a + c) / (2 * c)
+
+-- What that means: n is at most a half from a / c, and the half below it is n's. There is exactly one such n (proofs/Bytes).
+pub record Nearest (a c n : ℕ) : Type 0 where
+  pub above : 2 * (n * c) ≤ 2 * a + c
+  pub below : 2 * a + c < 2 * (n * c) + 2 * c
 
 -- with a sign, so that halves go away from zero
 abbrev pub signed : Bool → ℕ → ℤ
