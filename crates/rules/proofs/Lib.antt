@@ -10,3 +10,4 @@ pub mod Rows
 pub mod Grid
 pub mod Border
 pub mod Signed
+pub mod Roots
