@@ -3,7 +3,9 @@ pub mod Bools
 pub mod Fill
 pub mod Sums
 pub mod Bytes
+pub mod Patterns
 pub mod Tests
+pub mod Computed
 pub mod Stores
 pub mod Tallies
 pub mod Rows
