@@ -1,3 +1,5 @@
 -- Laws about this crate's code that several of its proofs cite.
 pub mod Resolving
 pub mod Sampling
+pub mod Magic
+pub mod Rounding

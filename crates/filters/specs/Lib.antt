@@ -1,2 +1,3 @@
 -- What this crate's private functions require of their arguments.
 pub mod Lent
+pub mod Byte
