@@ -2,17 +2,22 @@
 use mathlib.Core.Path.{_≡_, refl, sym, ap, _∙_}
 use Prim.Native.Nat.{ℕ, _+_, _*_, _<_, _≤_}
 use native.Mathlib.Omega.{arith}
-use lib.IntN.{ℤ}
+use mathlib.Core.List.{List}
+use lib.ListN.{length}
+use lib.IntN.{ℤ, pos, _-ℤ_}
 use mir.Syntax.{w64}
 use mir.Val.{SFits, toZ, ofZ}
 use mir.ValLaws.{toZ-ofZ}
 use Rattle.rules.specs.Border.{resolved, entryAt, sampleAt}
+use Rattle.rules.specs.Sums.{plusZero}
+use Rattle.rules.specs.Filters.{ofBytes}
 use Rattle.rules.specs.declared.Size.{Size}
 use Rattle.rules.specs.declared.BorderMode.{BorderMode}
 use Rattle.rules.specs.declared.Coord.{Coord}
 use Rattle.rules.specs.declared.Coord.the-variants.{At, Nothing, Refused}
 use Rattle.rules.proofs.Border.{Within, resolved-within}
 use Rattle.filters.specs.Lent.{placeIn}
+use Rattle.filters.specs.Blocks.{rowAt}
 
 -- what `place` gave, of the coordinate itself: a signed argument goes by its bits
 pub place-of : (mode : BorderMode) (z : ℤ) (side p : ℕ) → SFits w64 z → p ≡ placeIn side (resolved mode (toZ w64 (ofZ w64 z)) side) → p ≡ placeIn side (resolved mode z side)
@@ -58,3 +63,13 @@ module _ {A : Type 0} (z : A) (at : ℕ → A) (d : Size) (mode : BorderMode) (c
   pub cell : (x y : ℕ) → resolved mode cx (d .width) ≡ At x → resolved mode cy (d .height) ≡ At y → at (y * d .width + x) ≡ sampleAt z at d mode cx cy
   unfolding sampleAt
   cell x y e f = rw (e, f)
+
+-- a row's sample at coordinate at - half, by the coordinate's place p
+module _ (row : List ℕ) (mode : BorderMode) (at half p : ℕ) (e : p ≡ placeIn (length row) (resolved mode (pos at -ℤ pos half) (length row))) where
+  pub row-cell : p < length row → ofBytes row p ≡ rowAt row mode at half
+  unfolding rowAt
+  row-cell h = rw (inside mode (pos at -ℤ pos half) (length row) p e h)
+
+  pub row-nowhere : 0 < length row → length row ≤ p → plusZero ≡ rowAt row mode at half
+  unfolding rowAt
+  row-nowhere s h = rw (outside mode (pos at -ℤ pos half) (length row) p e s h)

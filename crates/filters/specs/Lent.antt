@@ -17,6 +17,11 @@ pub record Whole {ℓ} {A : Type ℓ} (d : Size) (l : List A) : Type 0 where
   pub height-fits : d .height ≤ maxSide
   pub long : length l ≡ area d
 
+-- a row of a picture
+pub record Row (row : List ℕ) : Type 0 where
+  pub some : 0 < length row
+  pub fits : length row ≤ maxSide
+
 -- a resolved coordinate as a number: the side itself stands for nowhere
 abbrev pub placeIn : ℕ → Coord → ℕ
 placeIn side (At i) = i

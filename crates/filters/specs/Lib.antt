@@ -1,3 +1,4 @@
 -- What this crate's private functions require of their arguments.
 pub mod Lent
 pub mod Byte
+pub mod Blocks

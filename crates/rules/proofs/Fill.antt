@@ -7,7 +7,7 @@ use native.Mathlib.Nat.{eq-or-lt-of-le, add-zero, add-suc}
 use native.Mathlib.Numerals.{add-one, one-add}
 use native.Mathlib.Omega.{arith}
 use lib.ListN.{length, getD, take, drop, set, length-append, length-drop, length-take, length-set, drop-of-length-le, List·getD-append}
-use lib.Seq.{drop-cons, set-at, drop-append-add, drop-drop, drop-at, take-at, getD-at, getD-drop}
+use lib.Seq.{drop-cons, set-at, drop-append-add, drop-drop, drop-at, take-at, getD-at, getD-drop, getD-take}
 use borrow.Rule.Slice.PartMut.{putMid, midOf}
 use Rattle.rules.specs.Picture.{tabulate, filled}
 
@@ -63,6 +63,21 @@ module _ {A : Type 0} where
       rw (p, drop-cons o n v h, set-at (tabulate n f) (getD o n v) (drop (suc n) o) v n (length-tabulate n f), add-one, q)
       (sym (append-assoc (tabulate n f) (f n ∷ []) (drop (suc n) o)))
 
+  -- THE INVARIANT of a loop that fills n entries, after i of them
+  pub record Filling (n i : ℕ) (f : ℕ → A) (o l : List A) : Type 0 where
+    pub within : i ≤ n
+    pub same : length l ≡ length o
+    pub is : l ≡ filled i f o
+
+  pub filling-start : (n : ℕ) (f : ℕ → A) (o : List A) → Filling n 0 f o o
+  filling-start n f o = record { within = omega arith; same = refl; is = fill-start f o }
+
+  pub filling-more : (n i : ℕ) (f : ℕ → A) (o l : List A) (v : A) → n ≤ length o → i < n → Filling n i f o l → v ≡ f i → Filling n (i + 1) f o (set l i v)
+  filling-more n i f o l v h k p q = record { within = omega arith; same = length-set l i v ∙ p .same; is = fill-more i f o l v (omega arith) (p .is) q }
+
+  pub filling-end : (n i : ℕ) (f : ℕ → A) (o l : List A) → Filling n i f o l → n ≤ i → l ≡ filled n f o
+  filling-end n i f o l p h = let e : i ≡ n = omega (arith, p .within) in rw e at (p .is)
+
   -- a run of k entries at a, written as a part of the buffer
   pub fill-part : (a k : ℕ) (f g : ℕ → A) (o l part : List A) → a + k ≤ length o → l ≡ filled a f o
       → part ≡ filled k g (midOf a k l) → ((i : ℕ) → i < k → g i ≡ f (a + i)) → putMid a k l part ≡ filled (a + k) f o
@@ -73,6 +88,20 @@ module _ {A : Type 0} where
       let s : length (take k (drop a o)) ≤ k = simp (length-take, length-drop) (omega arith) in
       rw (t, m, d, drop-of-length-le (take k (drop a o)) s, append-nil, drop-drop k a o, tabulate-add a k f, tabulate-cong k g (λ i. f (a + i)) q)
       (sym (append-assoc (tabulate a f) (tabulate k (λ i. f (a + i))) (drop (a + k) o)))
+
+  -- the same up to e, as the code lends the part from a to e
+  pub fill-to : (a e : ℕ) (f g : ℕ → A) (o l part : List A) → a ≤ e → e ≤ length o → l ≡ filled a f o
+      → part ≡ filled (e - a) g (midOf a (e - a) l) → ((i : ℕ) → i < e - a → g i ≡ f (a + i)) → putMid a (e - a) l part ≡ filled e f o
+  fill-to a e f g o l part p h q m r =
+      let k : a + (e - a) ≡ e = omega arith in
+      rw k at (fill-part a (e - a) f g o l part (omega arith) q m r)
+
+  -- an entry of such a part is still the one at entry
+  pub mid-unread : (a k : ℕ) (f : ℕ → A) (o l : List A) (z : A) (i : ℕ) → l ≡ filled a f o → i < k → getD (midOf a k l) i z ≡ getD o (a + i) z
+  mid-unread a k f o l z i p h =
+      getD-take k (drop a l) i z h
+      ∙ ap (λ (r : List A). getD r i z) (ap (drop a) p ∙ drop-at (tabulate a f) (drop a o) a (length-tabulate a f))
+      ∙ getD-drop a o i z
 
   -- ---- what stands in a filled buffer
 

@@ -1,0 +1,38 @@
+-- Sums of neighbouring pixels, a weight at a time.
+use Prim.Native.Nat.{ℕ, _+_, _-_, _*_, _<_, _≤_}
+use mathlib.Core.Path.{_≡_}
+use mathlib.Core.List.{List}
+use lib.ListN.{length, getD}
+use lib.IntN.{pos, _-ℤ_}
+use lib.Ieee.{Float, nan, binary32, add}
+use Rattle.rules.specs.Limits.{maxTaps}
+use Rattle.rules.specs.Border.{resolved}
+use Rattle.rules.specs.Sums.{plusZero, product}
+use Rattle.rules.specs.Filters.{ofBytes}
+use Rattle.rules.specs.declared.Size.{Size}
+use Rattle.rules.specs.declared.Kernel.{Kernel}
+use Rattle.rules.specs.declared.BorderMode.{BorderMode}
+use Rattle.rules.specs.declared.Coord.{Coord}
+use Rattle.rules.specs.declared.Coord.the-variants.{At, Nothing, Refused}
+use Rattle.filters.specs.Lent.{Whole}
+
+-- entry i of the sums `o` once sample v i times a weight is added
+abbrev pub added : List Float → (ℕ → Float) → Float → ℕ → Float
+added o v weight i = add binary32 (getD o i nan) (product (v i) weight)
+
+-- a row's sample at a resolved coordinate
+abbrev pub readRow : List ℕ → Coord → Float
+readRow row (At i) = ofBytes row i
+readRow row Nothing = plusZero
+readRow row Refused = plusZero
+
+-- and at coordinate at - half
+unfoldable pub rowAt : List ℕ → BorderMode → ℕ → ℕ → Float
+rowAt row mode at half = readRow row (resolved mode (pos at -ℤ pos half) (length row))
+
+-- of n coordinates from at - half on, those from lo to hi are a row's own columns, from s on
+pub record Inner (at half width n lo hi s : ℕ) : Type 0 where
+  pub rising : lo ≤ hi
+  pub last : hi ≤ n
+  pub in-row : s + (hi - lo) ≤ width
+  pub column : lo < hi → s + half ≡ at + lo

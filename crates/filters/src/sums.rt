@@ -1,0 +1,170 @@
+// Ordered f32 sums, a block of neighbouring pixels at once: each weight is added to every sum of the block before the next weight is, so
+// each pixel's own sum keeps its order (01.Border.7) and the loops run over slices in step.
+use crate::convolution::place;
+use rules::{BorderMode, Kernel, Size};
+ghost use mathlib.Core.Path.{_≡_};
+ghost use Prim.Native.Nat.{ℕ, _+_, _-_, _*_, _≤_, _<_, min};
+ghost use lib.ListN.{length, getD};
+ghost use lib.IntN.{pos, _-ℤ_};
+ghost use lib.Ieee.{nan};
+ghost use Rattle.rules.specs.Limits.{maxSide, maxTaps};
+ghost use Rattle.rules.specs.Picture.{area, filled, cleared};
+ghost use Rattle.rules.specs.Border.{resolved};
+ghost use Rattle.rules.specs.Sums.{plusZero};
+ghost use Rattle.rules.specs.Filters.{ofBytes, ofFloats, sampler, kernelSum, columnKernel};
+ghost use Rattle.filters.specs.Lent.{placeIn, Row};
+ghost use Rattle.filters.specs.Blocks.{added, rowAt, Inner};
+
+// The first n are +0.
+pub(crate) fn clear(sums: &mut [f32], n: usize)
+    requires { ⌜ n ≤ length (now sums) ⌝ }
+    ensures { λ _. ⌜ now (sums .exit) ≡ cleared n plusZero (now (sums .entry)) ⌝ }
+{
+    let mut i = 0;
+    while i < n {
+        sums[i] = 0.0;
+        i += 1;
+    }
+}
+
+// ---- The two entries of the Rust's `Sample`, bytes and f32; and samples that are all 0, whose products are still added.
+
+fn add_bytes(sums: &mut [f32], samples: &[u8], n: usize, weight: f32)
+    requires { ⌜ (n ≤ length (now sums)) × (n ≤ length (now samples)) ⌝ }
+    ensures { λ _. ⌜ now (sums .exit) ≡ filled n (added (now (sums .entry)) (ofBytes (now (samples .entry))) weight) (now (sums .entry)) ⌝ }
+{
+    let mut i = 0;
+    while i < n {
+        sums[i] = sums[i] + samples[i] as f32 * weight;
+        i += 1;
+    }
+}
+
+fn add_floats(sums: &mut [f32], samples: &[f32], n: usize, weight: f32)
+    requires { ⌜ (n ≤ length (now sums)) × (n ≤ length (now samples)) ⌝ }
+    ensures { λ _. ⌜ now (sums .exit) ≡ filled n (added (now (sums .entry)) (ofFloats (now (samples .entry))) weight) (now (sums .entry)) ⌝ }
+{
+    let mut i = 0;
+    while i < n {
+        sums[i] = sums[i] + samples[i] * weight;
+        i += 1;
+    }
+}
+
+fn add_zeros(sums: &mut [f32], n: usize, weight: f32)
+    requires { ⌜ n ≤ length (now sums) ⌝ }
+    ensures { λ _. ⌜ now (sums .exit) ≡ filled n (added (now (sums .entry)) (λ i. plusZero) weight) (now (sums .entry)) ⌝ }
+{
+    let mut i = 0;
+    while i < n {
+        sums[i] = sums[i] + 0.0 * weight;
+        i += 1;
+    }
+}
+
+// ---- Borders: places are worked out for the columns outside the row only.
+
+// Where coordinate at - half of a side is read; `side` itself where it is nowhere.
+fn place_about(at: usize, half: usize, side: usize, border: BorderMode) -> usize
+    requires { ⌜ (0 < side) × (side ≤ maxSide) × (at < 2 * maxSide) × (half ≤ maxTaps) ⌝ }
+    ensures { λ r. ⌜ r ≡ placeIn side (resolved border (pos at -ℤ pos half) side) ⌝ }
+{
+    place(at as i64 - half as i64, side, border)
+}
+
+// The sample of a row at coordinate at - half.
+fn edge(row: &[u8], at: usize, half: usize, border: BorderMode) -> f32
+    requires { ⌜ Row (now row) × (at < 2 * maxSide) × (half ≤ maxTaps) ⌝ }
+    ensures { λ r. ⌜ r ≡ rowAt (now (row .entry)) border at half ⌝ }
+{
+    let i = place_about(at, half, row.len(), border);
+    if i < row.len() {
+        return row[i] as f32;
+    }
+    0.0
+}
+
+fn add_edges(
+    sums: &mut [f32],
+    row: &[u8],
+    at: usize,
+    half: usize,
+    n: usize,
+    weight: f32,
+    border: BorderMode,
+)
+    requires { ⌜ Row (now row) × (n ≤ length (now sums)) × (at + n ≤ 2 * maxSide) × (half ≤ maxTaps) ⌝ }
+    ensures { λ _. ⌜ now (sums .exit) ≡ filled n (added (now (sums .entry)) (λ i. rowAt (now (row .entry)) border (at + i) half) weight) (now (sums .entry)) ⌝ }
+{
+    let mut i = 0;
+    while i < n {
+        sums[i] = sums[i] + edge(row, at + i, half, border) * weight;
+        i += 1;
+    }
+}
+
+fn least(a: usize, b: usize) -> usize
+    ensures { λ r. ⌜ r ≡ min a b ⌝ }
+{
+    if a < b { a } else { b }
+}
+
+fn less(a: usize, b: usize) -> usize
+    ensures { λ r. ⌜ r ≡ a - b ⌝ }
+{
+    if b < a { a - b } else { 0 }
+}
+
+// Where a row's own coordinates lie among n in a row: from lo to hi, and lo is column s.
+struct Cut {
+    lo: usize,
+    hi: usize,
+    s: usize,
+}
+
+fn inner_part(at: usize, half: usize, width: usize, n: usize) -> Cut
+    requires { ⌜ (width ≤ maxSide) × (at + n ≤ 2 * maxSide) × (half ≤ maxTaps) ⌝ }
+    ensures { λ r. ⌜ Inner at half width n (r .lo) (r .hi) (r .s) ⌝ }
+{
+    let lo = least(less(half, at), n);
+    let end = least(less(half + width, at), n);
+    Cut {
+        lo,
+        hi: lo + less(end, lo),
+        s: least(less(at + lo, half), width),
+    }
+}
+
+// One weight over the coordinates at - half, .., at + n - 1 - half of a row: those before the row, in it, and after it.
+fn add_row(
+    sums: &mut [f32],
+    row: &[u8],
+    at: usize,
+    half: usize,
+    n: usize,
+    weight: f32,
+    border: BorderMode,
+)
+    requires { ⌜ Row (now row) × (n ≤ length (now sums)) × (at + n ≤ 2 * maxSide) × (half ≤ maxTaps) ⌝ }
+    ensures { λ _. ⌜ now (sums .exit) ≡ filled n (added (now (sums .entry)) (λ i. rowAt (now (row .entry)) border (at + i) half) weight) (now (sums .entry)) ⌝ }
+{
+    let c = inner_part(at, half, row.len(), n);
+    let lo = c.lo;
+    let hi = c.hi;
+    let s = c.s;
+    let e = s + (hi - lo);
+    add_edges(&mut sums[0..lo], row, at, half, lo, weight, border);
+    add_bytes(&mut sums[lo..hi], &row[s..e], hi - lo, weight);
+    add_edges(&mut sums[hi..n], row, at + hi, half, n - hi, weight, border);
+}
+
+// ---- Blocks: the sums of n pixels from column x of row y on.
+
+// The weight of place j of the flipped kernel.
+fn flipped_weight(weights: &[f32], j: usize) -> f32
+    requires { ⌜ j < length (now weights) ⌝ }
+    ensures { λ r. ⌜ r ≡ getD (now (weights .entry)) (length (now (weights .entry)) - 1 - j) nan ⌝ }
+{
+    let i = weights.len() - 1 - j;
+    weights[i]
+}
