@@ -4,3 +4,4 @@ pub mod Sampling
 pub mod Magic
 pub mod Rounding
 pub mod Taps
+pub mod Terms

@@ -5,7 +5,8 @@ use mathlib.Core.List.{List}
 use lib.ListN.{length, getD}
 use lib.IntN.{pos, _-ℤ_}
 use lib.Ieee.{Float, nan, binary32, add}
-use Rattle.rules.specs.Limits.{maxTaps}
+use Rattle.rules.specs.Limits.{maxSide, maxTaps}
+use Rattle.rules.specs.Picture.{area}
 use Rattle.rules.specs.Border.{resolved}
 use Rattle.rules.specs.Sums.{plusZero, product}
 use Rattle.rules.specs.Filters.{ofBytes}
@@ -14,7 +15,6 @@ use Rattle.rules.specs.declared.Kernel.{Kernel}
 use Rattle.rules.specs.declared.BorderMode.{BorderMode}
 use Rattle.rules.specs.declared.Coord.{Coord}
 use Rattle.rules.specs.declared.Coord.the-variants.{At, Nothing, Refused}
-use Rattle.filters.specs.Lent.{Whole}
 
 -- entry i of the sums `o` once sample v i times a weight is added
 abbrev pub added : List Float → (ℕ → Float) → Float → ℕ → Float
@@ -36,3 +36,28 @@ pub record Inner (at half width n lo hi s : ℕ) : Type 0 where
   pub last : hi ≤ n
   pub in-row : s + (hi - lo) ≤ width
   pub column : lo < hi → s + half ≡ at + lo
+
+-- n pixels from column x of row y on, and room for their sums
+pub record Block (d : Size) (x y n : ℕ) (sums : List Float) : Type 0 where
+  pub row : y < d .height
+  pub columns : x + n ≤ d .width
+  pub width-fits : d .width ≤ maxSide
+  pub height-fits : d .height ≤ maxSide
+  pub room : n ≤ length sums
+
+-- with a byte picture and a kernel
+pub record ByteBlock (d : Size) (k : Kernel) (pixels : List ℕ) (weights : List Float) (x y n : ℕ) (sums : List Float) : Type 0 where
+  pub block : Block d x y n sums
+  pub wide : 0 < d .width
+  pub long : length pixels ≡ area d
+  pub kernel-wide : 0 < k .width
+  pub kernel-high : 0 < k .height
+  pub kernel-width : k .width ≤ maxTaps
+  pub kernel-height : k .height ≤ maxTaps
+  pub count : length weights ≡ k .width * k .height
+
+-- with an f32 picture and a column of taps
+pub record FloatBlock (d : Size) (entries taps : List Float) (x y n : ℕ) (sums : List Float) : Type 0 where
+  pub block : Block d x y n sums
+  pub long : area d ≤ length entries
+  pub few : length taps ≤ maxTaps

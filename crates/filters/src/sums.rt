@@ -1,7 +1,9 @@
 // Ordered f32 sums, a block of neighbouring pixels at once: each weight is added to every sum of the block before the next weight is, so
 // each pixel's own sum keeps its order (01.Border.7) and the loops run over slices in step.
 use crate::convolution::place;
-use rules::{BorderMode, Kernel, Size};
+use rules::BorderMode;
+use rules::Kernel;
+use rules::Size;
 ghost use mathlib.Core.Path.{_≡_};
 ghost use Prim.Native.Nat.{ℕ, _+_, _-_, _*_, _≤_, _<_, min};
 ghost use lib.ListN.{length, getD};
@@ -11,9 +13,10 @@ ghost use Rattle.rules.specs.Limits.{maxSide, maxTaps};
 ghost use Rattle.rules.specs.Picture.{area, filled, cleared};
 ghost use Rattle.rules.specs.Border.{resolved};
 ghost use Rattle.rules.specs.Sums.{plusZero};
-ghost use Rattle.rules.specs.Filters.{ofBytes, ofFloats, sampler, kernelSum, columnKernel};
+ghost use Rattle.rules.specs.Filters.{ofBytes, ofFloats, sampler, kernelTerm, kernelSum, columnKernel};
+ghost use Rattle.rules.proofs.Sums.{oneMore};
 ghost use Rattle.filters.specs.Lent.{placeIn, Row};
-ghost use Rattle.filters.specs.Blocks.{added, rowAt, Inner};
+ghost use Rattle.filters.specs.Blocks.{added, rowAt, Inner, ByteBlock, FloatBlock};
 
 // The first n are +0.
 pub(crate) fn clear(sums: &mut [f32], n: usize)
@@ -167,4 +170,108 @@ fn flipped_weight(weights: &[f32], j: usize) -> f32
 {
     let i = weights.len() - 1 - j;
     weights[i]
+}
+
+// Place j of the kernel, over bytes.
+fn add_byte_term(
+    pixels: &[u8],
+    size: Size,
+    kernel: Kernel,
+    weights: &[f32],
+    border: BorderMode,
+    x: usize,
+    y: usize,
+    n: usize,
+    j: usize,
+    sums: &mut [f32],
+)
+    requires { ⌜ ByteBlock size kernel (now pixels) (now weights) x y n (now sums) × (j < length (now weights)) ⌝ }
+    ensures { λ _. ⌜ now (sums .exit) ≡ filled n (oneMore (now (sums .entry)) (λ i. kernelTerm (sampler (ofBytes (now (pixels .entry))) size border) kernel (now (weights .entry)) (x + i) y) j) (now (sums .entry)) ⌝ }
+{
+    let weight = flipped_weight(weights, j);
+    let r = place_about(y + j / kernel.width, kernel.height / 2, size.height, border);
+    if r < size.height {
+        let a = r * size.width;
+        let e = a + size.width;
+        add_row(
+            sums,
+            &pixels[a..e],
+            x + j % kernel.width,
+            kernel.width / 2,
+            n,
+            weight,
+            border,
+        );
+        return;
+    }
+    add_zeros(sums, n, weight);
+}
+
+pub(crate) fn byte_sums(
+    pixels: &[u8],
+    size: Size,
+    kernel: Kernel,
+    weights: &[f32],
+    border: BorderMode,
+    x: usize,
+    y: usize,
+    n: usize,
+    sums: &mut [f32],
+)
+    requires { ⌜ ByteBlock size kernel (now pixels) (now weights) x y n (now sums) ⌝ }
+    ensures { λ _. ⌜ now (sums .exit) ≡ filled n (λ i. kernelSum (sampler (ofBytes (now (pixels .entry))) size border) kernel (now (weights .entry)) (x + i) y) (now (sums .entry)) ⌝ }
+{
+    clear(sums, n);
+    let mut j = 0;
+    while j < weights.len() {
+        add_byte_term(pixels, size, kernel, weights, border, x, y, n, j, sums);
+        j += 1;
+    }
+}
+
+// Tap k of a column, over f32.
+fn add_float_term(
+    entries: &[f32],
+    size: Size,
+    taps: &[f32],
+    border: BorderMode,
+    x: usize,
+    y: usize,
+    n: usize,
+    k: usize,
+    sums: &mut [f32],
+)
+    requires { ⌜ FloatBlock size (now entries) (now taps) x y n (now sums) × (k < length (now taps)) ⌝ }
+    ensures { λ _. ⌜ now (sums .exit) ≡ filled n (oneMore (now (sums .entry)) (λ i. kernelTerm (sampler (ofFloats (now (entries .entry))) size border) (columnKernel (length (now (taps .entry)))) (now (taps .entry)) (x + i) y) k) (now (sums .entry)) ⌝ }
+{
+    let weight = flipped_weight(taps, k);
+    let r = place_about(y + k, taps.len() / 2, size.height, border);
+    if r < size.height {
+        let a = r * size.width + x;
+        let e = a + n;
+        add_floats(sums, &entries[a..e], n, weight);
+        return;
+    }
+    add_zeros(sums, n, weight);
+}
+
+pub(crate) fn float_sums(
+    entries: &[f32],
+    size: Size,
+    taps: &[f32],
+    border: BorderMode,
+    x: usize,
+    y: usize,
+    n: usize,
+    sums: &mut [f32],
+)
+    requires { ⌜ FloatBlock size (now entries) (now taps) x y n (now sums) ⌝ }
+    ensures { λ _. ⌜ now (sums .exit) ≡ filled n (λ i. kernelSum (sampler (ofFloats (now (entries .entry))) size border) (columnKernel (length (now (taps .entry)))) (now (taps .entry)) (x + i) y) (now (sums .entry)) ⌝ }
+{
+    clear(sums, n);
+    let mut k = 0;
+    while k < taps.len() {
+        add_float_term(entries, size, taps, border, x, y, n, k, sums);
+        k += 1;
+    }
 }
