@@ -5,3 +5,4 @@ pub mod Magic
 pub mod Rounding
 pub mod Taps
 pub mod Terms
+pub mod Passing

@@ -61,3 +61,29 @@ pub record FloatBlock (d : Size) (entries taps : List Float) (x y n : ℕ) (sums
   pub block : Block d x y n sums
   pub long : area d ≤ length entries
   pub few : length taps ≤ maxTaps
+
+-- a pass over a whole byte picture with a kernel, and room for what it writes
+pub record BytePass {A : Type 0} (d : Size) (k : Kernel) (pixels : List ℕ) (weights : List Float) (out : List A) : Type 0 where
+  pub wide : 0 < d .width
+  pub width-fits : d .width ≤ maxSide
+  pub height-fits : d .height ≤ maxSide
+  pub long : length pixels ≡ area d
+  pub kernel-wide : 0 < k .width
+  pub kernel-high : 0 < k .height
+  pub kernel-width : k .width ≤ maxTaps
+  pub kernel-height : k .height ≤ maxTaps
+  pub count : length weights ≡ k .width * k .height
+  pub room : area d ≤ length out
+
+-- over a whole f32 picture with a column of taps
+pub record FloatPass (d : Size) (entries taps : List Float) (out : List ℕ) : Type 0 where
+  pub wide : 0 < d .width
+  pub width-fits : d .width ≤ maxSide
+  pub height-fits : d .height ≤ maxSide
+  pub long : area d ≤ length entries
+  pub few : length taps ≤ maxTaps
+  pub room : area d ≤ length out
+
+-- how many sums are kept at a time, where they have no lent place
+abbrev pub blockLength : ℕ
+blockLength = 128

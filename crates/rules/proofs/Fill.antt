@@ -1,5 +1,5 @@
 -- Buffers that a loop fills: what stands in them after n stores, after the last, and after two fillings in turn. Assumes nothing.
-use mathlib.Core.Path.{_≡_, refl, sym, ap, _∙_}
+use mathlib.Core.Path.{_≡_, refl, sym, ap, subst, _∙_}
 use mathlib.Core.Logic.{⊎-elim}
 use mathlib.Core.List.{List, [], _∷_, _++_, append-assoc, append-nil}
 use Prim.Native.Nat.{ℕ, zero, suc, _+_, _-_, _<_, _≤_}
@@ -51,6 +51,9 @@ module _ {A : Type 0} where
 
   -- ---- a filling loop, by its count
 
+  pub length-filled : (n : ℕ) (f : ℕ → A) (o : List A) → n ≤ length o → length (filled n f o) ≡ length o
+  length-filled n f o h = simp (length-append, length-drop) (omega (arith, length-tabulate n f))
+
   -- nothing is written yet
   pub fill-start : (f : ℕ → A) (o : List A) → o ≡ filled 0 f o
   unfolding tabulate
@@ -96,6 +99,15 @@ module _ {A : Type 0} where
       let k : a + (e - a) ≡ e = omega arith in
       rw k at (fill-part a (e - a) f g o l part (omega arith) q m r)
 
+  -- k entries more, as the code lends the part from a to a + k
+  pub filling-part : (n a k : ℕ) (f g : ℕ → A) (o l part : List A) → n ≤ length o → a + k ≤ n → Filling n a f o l
+      → part ≡ filled k g (midOf a (a + k - a) l) → ((i : ℕ) → i < k → g i ≡ f (a + i)) → Filling n (a + k) f o (putMid a (a + k - a) l part)
+  filling-part n a k f g o l part h b p q r =
+      let e : a + k - a ≡ k = omega arith in
+      let t : putMid a (a + k - a) l part ≡ filled (a + k) f o =
+      fill-to a (a + k) f g o l part (omega arith) (omega arith) (p .is) (subst (λ (m : ℕ). part ≡ filled m g (midOf a (a + k - a) l)) (sym e) q) (λ i m. r i (omega arith)) in
+      record { within = b; same = ap length t ∙ length-filled (a + k) f o (omega arith); is = t }
+
   -- an entry of such a part is still the one at entry
   pub mid-unread : (a k : ℕ) (f : ℕ → A) (o l : List A) (z : A) (i : ℕ) → l ≡ filled a f o → i < k → getD (midOf a k l) i z ≡ getD o (a + i) z
   mid-unread a k f o l z i p h =
@@ -104,9 +116,6 @@ module _ {A : Type 0} where
       ∙ getD-drop a o i z
 
   -- ---- what stands in a filled buffer
-
-  pub length-filled : (n : ℕ) (f : ℕ → A) (o : List A) → n ≤ length o → length (filled n f o) ≡ length o
-  length-filled n f o h = simp (length-append, length-drop) (omega (arith, length-tabulate n f))
 
   -- an entry that is written, in what a loop left
   pub filled-at : (n : ℕ) (f : ℕ → A) (o l : List A) (z : A) (i : ℕ) → l ≡ filled n f o → i < n → getD l i z ≡ f i
