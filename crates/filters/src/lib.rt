@@ -2,4 +2,5 @@
 mod byte;
 pub mod convolution;
 mod passes;
+mod refusals;
 mod sums;

@@ -4,6 +4,7 @@ pub mod Fill
 pub mod Sums
 pub mod Bytes
 pub mod Patterns
+pub mod Floats
 pub mod Tests
 pub mod Computed
 pub mod Stores

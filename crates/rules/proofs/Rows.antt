@@ -1,5 +1,5 @@
 -- Tables of refusals: a number 0 says that no row applies, and each row then gives its fact. Assumes nothing.
-use mathlib.Core.Path.{_≡_, refl}
+use mathlib.Core.Path.{_≡_, refl, sym, _∙_}
 use mathlib.Core.Bool.{Bool, true, false, not, _&&_, cond, _||_}
 use mathlib.Core.List.{List, [], _∷_}
 use Prim.Native.Nat.{ℕ, _*_, _%_, _<_, _≤_}
@@ -37,6 +37,16 @@ off [] t e = tt
 off (r ∷ rs) t e =
     let p = passed (r .applies) (r .number) (first rs) (ltb→lt 0 (r .number) (and-l (ltb 0 (r .number)) (numbered rs) t)) e in
     (p .0, off rs (and-r (ltb 0 (r .number)) (numbered rs) t) (p .1))
+
+-- ---- a table that the code goes down row by row
+
+-- a row that applies gives its number
+pub hit : (r : Rule) (rs : List Rule) → r .applies ≡ true → r .number ≡ first (r ∷ rs)
+hit r rs e = rw e
+
+-- one that does not is passed over: `rs` is what is left of the whole table `all`
+pub skip : (all : ℕ) (r : Rule) (rs : List Rule) → all ≡ first (r ∷ rs) → r .applies ≡ false → all ≡ first rs
+skip all r rs p e = p ∙ rw e
 
 -- ---- what a row that does not apply says
 
