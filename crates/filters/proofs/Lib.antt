@@ -6,3 +6,4 @@ pub mod Rounding
 pub mod Taps
 pub mod Terms
 pub mod Passing
+pub mod Convolving

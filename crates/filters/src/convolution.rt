@@ -1,14 +1,24 @@
-// Convolution: the border rules, the sums, the byte.
+// Convolution: the border rules, and the two public calls with a kernel that is lent.
+use crate::passes::BLOCK;
+use crate::passes::convolve;
+use crate::passes::horizontal_pass;
+use crate::passes::vertical_pass;
+use crate::refusals::of_kernel;
+use crate::refusals::of_separable;
+use crate::sums::clear;
+use rules::ACCEPTED;
 use rules::BorderMode;
 use rules::Coord;
+use rules::Kernel;
 use rules::MAX_SIDE;
+use rules::SeparableKernel;
 use rules::Size;
 ghost use mathlib.Core.Path.{_≡_};
 ghost use Prim.Native.Nat.{ℕ, _≤_, _<_, _*_};
 ghost use Rattle.rules.specs.Limits.{maxSide};
 ghost use Rattle.rules.specs.Border.{emod, clampOf, mirrorOf, resolved, coordSays, byteSample};
 ghost use Rattle.filters.specs.Lent.{Whole, placeIn};
-ghost use Rattle.rules.specs.Calls.{resolveCoord};
+ghost use Rattle.rules.specs.Calls.{resolveCoord, applyKernel, applySeparableKernel};
 
 // The non-negative remainder of c by p: the machine's, mended where it is negative.
 fn wrap(c: i64, p: usize) -> usize
@@ -109,4 +119,54 @@ pub(crate) fn sample(pixels: &[u8], size: Size, cx: i64, cy: i64, border: Border
     }
     let i = y * size.width + x;
     pixels[i]
+}
+
+// Convolves a byte picture with a kernel whose weights are lent in row order.
+pub fn apply_kernel(
+    pixels: &[u8],
+    size: Size,
+    kernel: Kernel,
+    weights: &[f32],
+    border: BorderMode,
+    out: &mut [u8],
+) -> u8
+    ensures { λ r. ⌜ (r, now (out .exit)) ≡ applyKernel size kernel border (now (pixels .entry)) (now (weights .entry)) (now (out .entry)) ⌝ }
+{
+    let refusal = of_kernel(pixels, size, kernel, weights, out);
+    if refusal != ACCEPTED {
+        return refusal;
+    }
+    if size.width == 0 {
+        return ACCEPTED;
+    }
+    let mut sums = [0.0f32; BLOCK];
+    convolve(pixels, size, kernel, weights, border, &mut sums, out);
+    ACCEPTED
+}
+
+// Convolves with a row of taps and then with a column of taps. Between the two the sums stay f32, in `work`, which is zero afterwards.
+pub fn apply_separable_kernel(
+    pixels: &[u8],
+    size: Size,
+    kernel: SeparableKernel,
+    horizontal: &[f32],
+    vertical: &[f32],
+    border: BorderMode,
+    work: &mut [f32],
+    out: &mut [u8],
+) -> u8
+    ensures { λ r. ⌜ (r, (now (work .exit), now (out .exit))) ≡ applySeparableKernel size kernel border (now (pixels .entry)) (now (horizontal .entry)) (now (vertical .entry)) (now (work .entry)) (now (out .entry)) ⌝ }
+{
+    let refusal = of_separable(pixels, size, kernel, horizontal, vertical, work, out);
+    if refusal != ACCEPTED {
+        return refusal;
+    }
+    if size.width == 0 {
+        return ACCEPTED;
+    }
+    horizontal_pass(pixels, size, horizontal, border, work);
+    let mut sums = [0.0f32; BLOCK];
+    vertical_pass(work, size, vertical, border, &mut sums, out);
+    clear(work, size.width * size.height);
+    ACCEPTED
 }

@@ -10,6 +10,7 @@ pub mod Computed
 pub mod Stores
 pub mod Tallies
 pub mod Rows
+pub mod Answers
 pub mod Grid
 pub mod Border
 pub mod Signed
