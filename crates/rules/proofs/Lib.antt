@@ -11,6 +11,7 @@ pub mod Stores
 pub mod Tallies
 pub mod Rows
 pub mod Answers
+pub mod Blurs
 pub mod Grid
 pub mod Border
 pub mod Signed

@@ -1,0 +1,28 @@
+-- `apply` meets its contract: a convolution with the constant weights. Assumes nothing.
+use borrow.Author.Needs.{needs}
+use mathlib.Core.Path.{_∙_}
+use denote.Ref.{now}
+use lib.Ieee.{ofBits, ofInt}
+use Rattle.rules.proofs.Blurs.{sharpen-is}
+use Rattle.filters.proofs.sharpen.SharpenFilter.apply.Statement.{statement}
+use Rattle.filters.proofs.sharpen.SharpenFilter.apply.Tie as tie
+
+slice-aggregate-apply-kernel : tie.Need-slice-aggregate-apply-kernel
+slice-aggregate-apply-kernel c = search needs
+
+apply-kernel-requires : tie.Need-apply-kernel-requires
+apply-kernel-requires c κs = search needs
+
+same-length : tie.Need-same-length
+same-length c = search needs
+
+returns : tie.Need-returns
+unfolding ofBits ofInt
+returns c =
+    let s = c .before .before in
+    let a = s .before .before .before .before .before .args in
+    s .apply-kernel .ensures ∙ sharpen-is (a .size) (a .self .border) (now (a .pixels)) (now (a .out))
+
+pub apply-spec : {M : Type 1} → statement M
+apply-spec =
+    tie.close (tie.spec slice-aggregate-apply-kernel apply-kernel-requires same-length returns)
