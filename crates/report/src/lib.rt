@@ -1,0 +1,93 @@
+// The lines of the programs that run examples: what was got, beside what is wanted. What a program writes is compared with its file
+// stdout, so a line whose two sides differ, or that changes, fails the gate. No contract can speak of what is written.
+use libc::STDOUT_FILENO;
+
+// A number.
+pub fn number(name: &[u8], got: u64, wanted: u64) {
+    io::write_all(STDOUT_FILENO, name);
+    io::write_all(STDOUT_FILENO, b": got ");
+    io::print_decimal(STDOUT_FILENO, got);
+    io::write_all(STDOUT_FILENO, b" wanted ");
+    io::print_decimal(STDOUT_FILENO, wanted);
+    io::write_all(STDOUT_FILENO, b"\n");
+}
+
+// A test that is wanted to pass: 1 is yes.
+pub fn yes(name: &[u8], got: bool) {
+    number(name, if got { 1 } else { 0 }, 1);
+}
+
+// Bytes, in decimal.
+pub fn bytes(name: &[u8], got: &[u8], wanted: &[u8]) {
+    io::write_all(STDOUT_FILENO, name);
+    io::write_all(STDOUT_FILENO, b": got");
+    decimals(got);
+    io::write_all(STDOUT_FILENO, b" wanted");
+    decimals(wanted);
+    io::write_all(STDOUT_FILENO, b"\n");
+}
+
+fn decimals(values: &[u8]) {
+    let mut i = 0;
+    while i < values.len() {
+        decimal(values[i]);
+        i += 1;
+    }
+}
+
+fn decimal(value: u8) {
+    io::write_all(STDOUT_FILENO, b" ");
+    io::print_decimal(STDOUT_FILENO, value as u64);
+}
+
+// A float, by its bits.
+pub fn float(name: &[u8], got: f32, wanted: u32) {
+    io::write_all(STDOUT_FILENO, name);
+    io::write_all(STDOUT_FILENO, b": got ");
+    io::print_hex(STDOUT_FILENO, bits(got) as u64, 8);
+    io::write_all(STDOUT_FILENO, b" wanted ");
+    io::print_hex(STDOUT_FILENO, wanted as u64, 8);
+    io::write_all(STDOUT_FILENO, b"\n");
+}
+
+// Every NaN is printed as this one.
+const NAN_BITS: u32 = 0x7fc0_0000;
+
+pub fn bits(x: f32) -> u32 {
+    if x == x {
+        return f32::to_bits(x);
+    }
+    NAN_BITS
+}
+
+pub fn nan() -> f32 {
+    let zero = 0.0f32;
+    zero / zero
+}
+
+pub fn infinity() -> f32 {
+    let zero = 0.0f32;
+    1.0 / zero
+}
+
+// Whether every byte is v.
+pub fn all_are(buffer: &[u8], v: u8) -> bool {
+    let mut same = true;
+    let mut i = 0;
+    while i < buffer.len() {
+        same = same & (buffer[i] == v);
+        i += 1;
+    }
+    same
+}
+
+// Whether every float has v's bits.
+pub fn floats_are(buffer: &[f32], v: f32) -> bool {
+    let mut same = true;
+    let mut i = 0;
+    while i < buffer.len() {
+        same = same & (bits(buffer[i]) == bits(v));
+        i += 1;
+    }
+    same
+}
