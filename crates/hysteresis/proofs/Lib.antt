@@ -1,0 +1,6 @@
+-- The laws of the walk, from the places around a pixel up to demand 3.
+pub mod Places
+pub mod Visits
+pub mod Fits
+pub mod Going
+pub mod Classing
