@@ -4,3 +4,4 @@ pub mod Visits
 pub mod Fits
 pub mod Going
 pub mod Classing
+pub mod Numbers
