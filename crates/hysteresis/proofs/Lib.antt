@@ -5,3 +5,6 @@ pub mod Fits
 pub mod Going
 pub mod Classing
 pub mod Numbers
+pub mod Floats
+pub mod Keep
+pub mod Kept
