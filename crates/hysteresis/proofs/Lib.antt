@@ -8,3 +8,4 @@ pub mod Numbers
 pub mod Floats
 pub mod Keep
 pub mod Kept
+pub mod Demand
