@@ -1,22 +1,22 @@
 -- DEMAND 3 of every accepted start and whatever calls follow it, and what a slice's count of takes is worth. Assumes nothing.
-use Prim.Native.Nat.{ℕ, zero, suc, _+_, _*_, _≤_, _<_, min}
+use Prim.Native.Nat.{ℕ, zero, suc, _+_, _≤_, _<_, min}
 use native.Mathlib.Decide.{ℕ-discrete}
 use native.Mathlib.Nat.{add-assoc}
 use native.Mathlib.Omega.{arith}
-use mathlib.Core.Path.{_≡_, refl, sym, ap, _∙_, subst}
-use mathlib.Core.Bool.{Bool, true, false, not, cond, _||_}
+use mathlib.Core.Path.{_≡_, refl, sym, ap, _∙_}
+use mathlib.Core.Bool.{Bool, true, false, not, cond}
 use mathlib.Core.List.{List, [], _∷_}
 use lib.Dec.{T, eqb, eqb→eq}
 use lib.ListN.{length, getD}
-use lib.Ieee.{Float, nan, lt}
+use lib.Ieee.{Float, nan}
 use lib.Ieee.Scale.{finite}
 use borrow.Author.Tests.{eqb-true, eqb-false, eq-eqb, ne-eqb, le-ltb, not-false}
 use Rattle.rules.specs.Picture.{area, anyBelow, tally}
 use Rattle.rules.specs.Walk.{State, state, mark, has, count, last, pop, look, visit, looks, taken, sliced, takes, unusable, atLeast, edge}
 use Rattle.rules.specs.Refusals.{first, badThreshold, startRows, sliceRows, mapRows}
 use Rattle.rules.specs.Calls as Calls
-use Rattle.rules.specs.Calls.{accepted, walkOf, afterStart, afterSlice, sliceTakes}
-use Rattle.rules.specs.Joined.{Joined, Touch, Way, Tells, joined, joinedCount, Held, Call, afterCall, spentBy, afterAll, spent, Progress, heldAtStart, Demand-3}
+use Rattle.rules.specs.Calls.{walkOf, afterStart, afterSlice, sliceTakes}
+use Rattle.rules.specs.Joined.{Joined, Way, Tells, joined, joinedCount, Held, Call, spentBy, afterAll, spent, Progress, heldAtStart, Demand-3}
 use Rattle.rules.specs.Joined.Way.{here, on}
 use Rattle.rules.specs.Joined.Call.{slice, map}
 use Rattle.rules.specs.declared.Size.{Size}
@@ -29,7 +29,7 @@ use Rattle.rules.proofs.Tallies.{tally-le, tally-less, tally-zero}
 use Rattle.rules.proofs.Paths.{way-in, joined-tells, joined-count}
 use Rattle.hysteresis.proofs.Numbers.{usable-of, Startable, startable}
 use Rattle.hysteresis.proofs.Floats.{lower}
-use Rattle.hysteresis.proofs.Keep.{Core, room, last-in, last-two, last-joined}
+use Rattle.hysteresis.proofs.Keep.{room, last-in, last-two, last-joined}
 use Rattle.hysteresis.proofs.Kept.{Inv, take-keeps, take-finishes, start-holds}
 
 -- what a caller holds at the state s

@@ -9,7 +9,7 @@ use mathlib.Core.List.{List}
 use lib.Dec.{T, eqb}
 use lib.ListN.{length, getD, set, length-set}
 use lib.Seq.{getD-set-same, getD-set-other}
-use borrow.Author.Tests.{eqb-true, eqb-false, eq-eqb, ne-eqb}
+use borrow.Author.Tests.{eqb-true, ne-eqb}
 use Rattle.rules.specs.Picture.{area, bit, tally}
 use Rattle.rules.specs.Walk.{State, state, mark, has, count, push, pop, last}
 use Rattle.rules.specs.Joined.{Joined}

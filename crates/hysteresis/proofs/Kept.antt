@@ -1,18 +1,18 @@
 -- A whole take keeps the invariant and finishes one pixel more; the classes of a start reach it. Assumes nothing.
-use Prim.Native.Nat.{ℕ, zero, suc, _+_, _≤_, _<_, zero-le}
+use Prim.Native.Nat.{ℕ, zero, suc, _≤_, _<_, zero-le}
 use native.Mathlib.Nat.{le-refl}
 use native.Mathlib.Omega.{arith}
 use mathlib.Core.Path.{_≡_, refl, sym, ap, _∙_, subst}
 use mathlib.Core.Logic.{_⊎_, ⊎-elim, _≢_}
 use mathlib.Core.Bool.{Bool, true, false, cond}
 use mathlib.Core.List.{List}
-use lib.Dec.{T, eqb}
+use lib.Dec.{T}
 use lib.ListN.{length, set}
 use lib.Seq.{getD-set-same}
-use borrow.Author.Tests.{eqb-false, eqb-true, ne-eqb}
+use borrow.Author.Tests.{eqb-false, ne-eqb}
 use Rattle.rules.specs.Picture.{area, bit, tally, cleared}
 use Rattle.rules.specs.Walk.{State, state, mark, has, count, push, pop, last, look, visit, looks, taken, class, classed, started, place}
-use Rattle.rules.specs.Joined.{Joined, Touch, Way}
+use Rattle.rules.specs.Joined.{Joined, Touch}
 use Rattle.rules.specs.Joined.Way.{here, on}
 use Rattle.rules.specs.declared.Size.{Size}
 use Rattle.rules.proofs.Bools.{is-true}

@@ -1,12 +1,12 @@
 -- What an accepted number says, and what each call answers by its number. Assumes nothing.
 use Prim.Native.Nat.{ℕ, _+_, _*_, _≤_, _<_}
-use mathlib.Core.Path.{_≡_, refl, sym, ap, _∙_}
-use mathlib.Core.Bool.{Bool, true, false, _||_}
+use mathlib.Core.Path.{_≡_, ap, _∙_}
+use mathlib.Core.Bool.{false}
 use mathlib.Core.List.{List}
 use lib.Dec.{leb, ltb}
 use lib.ListN.{length, getD}
 use lib.Ieee.{Float, lt}
-use borrow.Author.Tests.{ltb-false, leb-false, lt-leb, le-ltb, eq-eqb, ne-eqb}
+use borrow.Author.Tests.{ltb-false, leb-false, lt-leb, le-ltb, ne-eqb}
 use Rattle.rules.specs.Limits.{maxSide}
 use Rattle.rules.specs.Picture.{area, anyBelow, cleared}
 use Rattle.rules.specs.Walk.{State, state, mark, count, unusable, atLeast, classed, started, sliced, takes, mapped}

@@ -1,7 +1,7 @@
 -- `map` answers as the definition does. Assumes nothing.
 use borrow.Author.Needs.{needs}
 use native.Mathlib.Omega.{arith}
-use mathlib.Core.Path.{_≡_, sym, _∙_}
+use mathlib.Core.Path.{sym, _∙_}
 use Rattle.rules.specs.Walk.{state}
 use Rattle.rules.specs.Calls.{sidesOf}
 use Rattle.hysteresis.proofs.Numbers.{Mappable, mappable, map-refused, map-made}

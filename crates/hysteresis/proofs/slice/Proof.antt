@@ -1,6 +1,6 @@
 -- `slice` answers as the definition does. Assumes nothing.
 use borrow.Author.Needs.{needs}
-use mathlib.Core.Path.{_≡_, sym, _∙_}
+use mathlib.Core.Path.{sym, _∙_}
 use Rattle.hysteresis.proofs.Numbers.{slice-fit, slice-refused, slice-made}
 use Rattle.hysteresis.proofs.slice.Statement.{statement}
 use Rattle.hysteresis.proofs.slice.Tie as tie

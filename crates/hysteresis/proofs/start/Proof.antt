@@ -1,7 +1,7 @@
 -- `start` answers as the definition does. Assumes nothing.
 use borrow.Author.Needs.{needs}
 use native.Mathlib.Omega.{arith}
-use mathlib.Core.Path.{_≡_, sym, _∙_}
+use mathlib.Core.Path.{sym, _∙_}
 use Rattle.hysteresis.proofs.Numbers.{Startable, startable, start-refused, start-made}
 use Rattle.hysteresis.proofs.start.Statement.{statement}
 use Rattle.hysteresis.proofs.start.Tie as tie

@@ -2,13 +2,12 @@
 use borrow.Author.Needs.{needs}
 use borrow.Author.Tests.{eq-eqb, ne-eqb}
 use native.Mathlib.Omega.{arith}
-use Prim.Native.Nat.{ℕ, _-_, _≤_}
-use mathlib.Core.Path.{_≡_, refl, ap, _∙_}
+use Prim.Native.Nat.{_-_, _≤_}
+use mathlib.Core.Path.{_≡_, ap, _∙_}
 use mathlib.Core.Logic.{⊎-elim}
-use lib.ListN.{length}
 use Rattle.rules.specs.Picture.{tally}
-use Rattle.rules.specs.Walk.{count, has}
-use Rattle.rules.proofs.Tallies.{tally-yes, tally-no, tally-all}
+use Rattle.rules.specs.Walk.{count}
+use Rattle.rules.proofs.Tallies.{tally-yes, tally-no}
 use Rattle.hysteresis.proofs.refusals.count_weak.Statement.{statement}
 use Rattle.hysteresis.proofs.refusals.count_weak.Tie as tie
 

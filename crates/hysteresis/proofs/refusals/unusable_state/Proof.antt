@@ -1,7 +1,7 @@
 -- `unusable_state` is row 9, test by test. Assumes nothing.
 use borrow.Author.Needs.{needs}
 use borrow.Author.Tests.{lt-ltb, le-ltb}
-use mathlib.Core.Path.{_≡_, sym, _∙_}
+use mathlib.Core.Path.{sym, _∙_}
 use Rattle.rules.specs.Walk.{unusable}
 use Rattle.hysteresis.proofs.refusals.unusable_state.Statement.{statement}
 use Rattle.hysteresis.proofs.refusals.unusable_state.Tie as tie

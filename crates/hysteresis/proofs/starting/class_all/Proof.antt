@@ -1,10 +1,10 @@
 -- `class_all` classes pixel after pixel. Assumes nothing.
 use borrow.Author.Needs.{needs}
 use native.Mathlib.Omega.{arith}
-use Prim.Native.Nat.{ℕ, _-_, _≤_}
-use mathlib.Core.Path.{_≡_, refl, ap, _∙_}
+use Prim.Native.Nat.{_-_, _≤_}
+use mathlib.Core.Path.{_≡_, _∙_}
 use lib.ListN.{length}
-use Rattle.rules.specs.Walk.{State, state, atLeast, classed}
+use Rattle.rules.specs.Walk.{state, atLeast, classed}
 use Rattle.hysteresis.proofs.Classing.{class-pending, classed-more}
 use Rattle.hysteresis.proofs.starting.class_all.Statement.{statement}
 use Rattle.hysteresis.proofs.starting.class_all.Tie as tie

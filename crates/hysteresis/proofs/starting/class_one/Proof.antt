@@ -1,6 +1,5 @@
 -- `class_one` is the definition's class of one pixel. Assumes nothing.
 use borrow.Author.Needs.{needs}
-use mathlib.Core.Path.{_≡_, ap, _∙_}
 use mathlib.Core.Logic.{⊎-elim}
 use Rattle.rules.specs.Walk.{class}
 use Rattle.hysteresis.proofs.starting.class_one.Statement.{statement}

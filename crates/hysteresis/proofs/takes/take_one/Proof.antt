@@ -3,7 +3,7 @@ use borrow.Author.Needs.{needs}
 use native.Mathlib.Omega.{arith}
 use native.Mathlib.Nat.{mod-le, div-le-self}
 use Prim.Native.Nat.{_-_, _*_, _/_, _%_, _<_}
-use mathlib.Core.Path.{_≡_, sym, ap, _∙_, subst}
+use mathlib.Core.Path.{sym, ap, _∙_, subst}
 use lib.ListN.{getD, length-set}
 use Rattle.rules.specs.Limits.{maxSide}
 use Rattle.rules.specs.Picture.{area}

@@ -1,8 +1,7 @@
 -- `visit_at` is the definition's visit. Assumes nothing.
 use borrow.Author.Needs.{needs}
 use native.Mathlib.Omega.{arith}
-use Prim.Native.Nat.{_-_, _*_, _<_}
-use mathlib.Core.Path.{_≡_, sym, _∙_}
+use mathlib.Core.Path.{sym, _∙_}
 use Rattle.hysteresis.proofs.Places.{Within, place-in}
 use Rattle.hysteresis.proofs.Visits.{visit-in, visit-out}
 use Rattle.hysteresis.proofs.Fits.{room-for}

@@ -1,8 +1,7 @@
 -- `visit_row` is three visits of one row. Assumes nothing.
 use borrow.Author.Needs.{needs}
-use mathlib.Core.Path.{_≡_, sym, ap, _∙_, subst}
-use Prim.Native.Nat.{_+_}
-use Rattle.rules.specs.Walk.{State, state, visit}
+use mathlib.Core.Path.{sym, ap, _∙_, subst}
+use Rattle.rules.specs.Walk.{state, visit}
 use Rattle.hysteresis.specs.Fit.{Fit}
 use Rattle.hysteresis.specs.Around.{row}
 use Rattle.hysteresis.proofs.Fits.{fit-visit}
