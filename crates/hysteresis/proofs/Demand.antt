@@ -25,12 +25,12 @@ use Rattle.rules.specs.declared.Started.{Started}
 use Rattle.rules.proofs.Bools.{true-is, is-true, neither}
 use Rattle.rules.proofs.Fill.{filled-at}
 use Rattle.rules.proofs.Rows.{Sides}
-use Rattle.rules.proofs.Tallies.{tally-le, tally-less, tally-zero}
+use Rattle.rules.proofs.Tallies.{tally-all, tally-le, tally-less, tally-zero}
 use Rattle.rules.proofs.Paths.{way-in, joined-tells, joined-count}
 use Rattle.hysteresis.proofs.Numbers.{usable-of, Startable, startable}
 use Rattle.hysteresis.proofs.Floats.{lower}
-use Rattle.hysteresis.proofs.Keep.{room, last-in, last-two, last-joined}
-use Rattle.hysteresis.proofs.Kept.{Inv, take-keeps, take-finishes, start-holds}
+use Rattle.hysteresis.proofs.Invariant.{room, last-in, last-two, last-joined}
+use Rattle.hysteresis.proofs.Steps.{Inv, take-keeps, take-finishes, start-holds}
 
 -- what a caller holds at the state s
 abbrev heldOf : Size → State → Held
@@ -233,6 +233,23 @@ module _ (d : Size) (t : Thresholds) (magnitudes : List Float) (marks stack : Li
 
   progress-after : (calls : List Call) → let h = heldAtStart d t magnitudes marks stack in Progress d hi lo (joinedCount d hi lo) (spent calls h) (afterAll calls h)
   progress-after calls = let a = after calls in rw (held-is, a .is) (progress d hi lo (a .now) (a .inv) (ok .sides) _ (omega (arith, a .finished)))
+
+  -- a slice with the budget width * height + 1 ends the walk, and then mark 3 tells exactly the joined pixels, whatever the buffers held
+  pub end-tells : let s = sliced d (area d + 1) begun in (s .pending ≡ 0) × Tells d hi lo (has 3 (s .marks))
+  unfolding afterStart
+  end-tells =
+      let h = start-holds d hi lo above marks stack (ok .marks-long) (ok .stack-long) in
+      let a = slice-keeps d hi lo (area d + 1) begun 0 (h .0) (omega (arith, h .1)) in
+      let s = sliced d (area d + 1) begun in
+      let n = tally-all (joined d hi lo) (area d) in
+      let c = joined-count d hi lo in
+      let p = over d hi lo s (a .inv) (omega (arith, a .finished)) (ℕ-discrete (s .pending) 0) in (
+        p,
+        record {
+          sound = λ q l z. three-joined d hi lo s (a .inv) q l (eqb→eq _ _ z);
+          complete = λ q j. is-true (eq-eqb _ _ (ends d hi lo s (a .inv) p q j));
+        },
+      )
 
   -- ON EVERY STATE THAT A START AND CALLS AFTER IT LEFT, A SLICE'S TAKES ARE ITS NEW MARKS 3
   pub takes-finish : (calls : List Call) (b : ℕ)

@@ -6,13 +6,15 @@ use native.Mathlib.Omega.{arith}
 use mathlib.Core.Path.{_≡_, refl, ap, _∙_}
 use mathlib.Core.Logic.{⊎-elim}
 use mathlib.Core.Bool.{Bool, true, false, cond}
+use mathlib.Core.List.{List}
 use lib.Dec.{eqb}
 use lib.ListN.{getD, set, drop, length-set}
 use lib.Seq.{getD-set-same, getD-set-other, drop-set-lt}
 use borrow.Author.Tests.{eqb-false}
-use Rattle.rules.specs.Picture.{area}
-use Rattle.rules.specs.Walk.{State, mark, count, push, pop, last, visit, taken, sliced}
+use Rattle.rules.specs.Picture.{area, bit, cleared}
+use Rattle.rules.specs.Walk.{State, state, mark, count, push, pop, last, visit, taken, sliced, class, classed, started}
 use Rattle.rules.specs.declared.Size.{Size}
+use Rattle.rules.proofs.Fill.{drop-filled}
 use Rattle.rules.proofs.Tests.{below-suc}
 use Rattle.rules.proofs.Tallies.{count-less, count-same}
 use Rattle.hysteresis.specs.Fit.{Fit}
@@ -107,3 +109,28 @@ module _ (d : Size) where
           let a = past-taken s h (omega arith) in
           let b = ih (fit-taken s h (omega arith)) in
           record { marks = b .marks ∙ a .marks; stack = b .stack ∙ a .stack }
+
+  -- nor does a start: no more are pending than are classed
+  past-classed : (hi lo : ℕ → Bool) (s : State) → s .pending ≡ 0 → (i : ℕ) → i ≤ area d → Past s (classed hi lo i s) × (classed hi lo i s .pending ≤ i)
+  unfolding classed class
+  past-classed hi lo s p zero l = (record { marks = refl; stack = refl }, omega arith)
+  past-classed hi lo s p (suc i) l = go (past-classed hi lo s p i (omega arith)) (hi i)
+    where
+      t : State
+      t = classed hi lo i s
+
+      go : Past s t × (t .pending ≤ i) → (c : Bool) → let u = cond c (push i t) (state (set (t .marks) i (bit (lo i))) (t .stack) (t .pending)) in Past s u × (u .pending ≤ suc i)
+      go h true = (
+        record {
+          marks = drop-set-lt (area d) (t .marks) i 2 l ∙ h .0 .marks;
+          stack = drop-set-lt (area d) (t .stack) (t .pending) i (omega (arith, h .1)) ∙ h .0 .stack;
+        },
+        omega (arith, h .1),
+      )
+      go h false = (record { marks = drop-set-lt (area d) (t .marks) i (bit (lo i)) l ∙ h .0 .marks; stack = h .0 .stack }, omega (arith, h .1))
+
+  pub past-started : (hi lo : ℕ → Bool) (marks stack : List ℕ) → Past (state marks stack 0) (started hi lo (area d) marks stack)
+  unfolding started
+  past-started hi lo marks stack =
+      let h = past-classed hi lo (state marks (cleared (area d) 0 stack) 0) refl (area d) (le-refl _) .0 in
+      record { marks = h .marks; stack = h .stack ∙ drop-filled (area d) (λ i. 0) stack _ refl }

@@ -6,6 +6,6 @@ pub mod Going
 pub mod Classing
 pub mod Numbers
 pub mod Floats
-pub mod Keep
-pub mod Kept
+pub mod Invariant
+pub mod Steps
 pub mod Demand

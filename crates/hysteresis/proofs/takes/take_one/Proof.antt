@@ -30,12 +30,19 @@ module _ (c : tie.Start) where
   fit-0 : Fit (c .args .size) (pop (state (c .args .marks .now) (c .args .stack .now) (c .args .pending)))
   fit-0 = fit-pop _ _ (c .pre .1) (c .pre .0)
 
--- after each row the walk fits
-fit-1 : (c : tie.After-visit-row) → Fit (c .before .before .before .before .before .before .before .before .args .size) (state (c .visit-row .last .0) (c .visit-row .last .1 .0) (c .visit-row .result))
-unfolding pop
-fit-1 c = subst (Fit _) (sym (c .visit-row .ensures)) (fit-row _ _ _ _ (fit-0 (c .before .before .before .before .before .before .before .before)))
+-- where the take began, from after the first row and from after the second
+abbrev from-1 : tie.After-visit-row → tie.Start
+from-1 c = c .before .before .before .before .before .before .before .before
 
-fit-2 : (c : tie.After-visit-row2) → Fit (c .before .before .before .before .before .before .before .before .before .before .before .before .before .before .before .args .size) (state (c .visit-row2 .last .0) (c .visit-row2 .last .1 .0) (c .visit-row2 .result))
+abbrev from-2 : tie.After-visit-row2 → tie.Start
+from-2 c = from-1 (c .before .before .before .before .before .before .before)
+
+-- after each row the walk fits
+fit-1 : (c : tie.After-visit-row) → Fit (from-1 c .args .size) (state (c .visit-row .last .0) (c .visit-row .last .1 .0) (c .visit-row .result))
+unfolding pop
+fit-1 c = subst (Fit _) (sym (c .visit-row .ensures)) (fit-row _ _ _ _ (fit-0 (from-1 c)))
+
+fit-2 : (c : tie.After-visit-row2) → Fit (from-2 c .args .size) (state (c .visit-row2 .last .0) (c .visit-row2 .last .1 .0) (c .visit-row2 .result))
 fit-2 c = subst (Fit _) (sym (c .visit-row2 .ensures)) (fit-row _ _ _ _ (fit-1 (c .before .before .before .before .before .before .before)))
 
 sub-at : tie.Need-sub-at
@@ -70,16 +77,16 @@ unfolding pop
 visit-row-requires c κs = (x-small (c .before .before .before .before .before .before .before), fit-0 (c .before .before .before .before .before .before .before))
 
 add-visit-row : tie.Need-add-visit-row
-add-visit-row c = omega (arith, y-small (c .before .before .before .before .before .before .before .before .before .before .before .before .before .before))
+add-visit-row c = omega (arith, y-small (from-1 (c .before .before .before .before .before .before)))
 
 visit-row-requires-2 : tie.Need-visit-row-requires-2
-visit-row-requires-2 c κs = (x-small (c .before .before .before .before .before .before .before .before .before .before .before .before .before .before), fit-1 (c .before .before .before .before .before .before))
+visit-row-requires-2 c κs = (x-small (from-1 (c .before .before .before .before .before .before)), fit-1 (c .before .before .before .before .before .before))
 
 add-visit-row-2 : tie.Need-add-visit-row-2
-add-visit-row-2 c = omega (arith, y-small (c .before .before .before .before .before .before .before .before .before .before .before .before .before .before .before .before .before .before .before .before .before))
+add-visit-row-2 c = omega (arith, y-small (from-2 (c .before .before .before .before .before .before)))
 
 visit-row-requires-3 : tie.Need-visit-row-requires-3
-visit-row-requires-3 c κs = (x-small (c .before .before .before .before .before .before .before .before .before .before .before .before .before .before .before .before .before .before .before .before .before), fit-2 (c .before .before .before .before .before .before))
+visit-row-requires-3 c κs = (x-small (from-2 (c .before .before .before .before .before .before)), fit-2 (c .before .before .before .before .before .before))
 
 same-length : tie.Need-same-length
 same-length c =

@@ -22,7 +22,7 @@ use Rattle.rules.proofs.Tests.{below-suc}
 use Rattle.rules.proofs.Tallies.{count-same, tally-zero}
 use Rattle.hysteresis.proofs.Places.{Within, colAt, rowAt, place-in, touch-place, nth}
 use Rattle.hysteresis.proofs.Visits.{visit-in, visit-keeps, looks-keep}
-use Rattle.hysteresis.proofs.Keep.{Right, Core, counted, core-push, core-strong, core-weak, core-pop, pop-more, popped, last-in, last-joined}
+use Rattle.hysteresis.proofs.Invariant.{Right, Core, counted, core-push, core-strong, core-weak, core-pop, pop-more, popped, last-in, last-joined}
 
 module _ (d : Size) (hi lo : ℕ → Bool) where
   -- between takes: each neighbour of a finished pixel that is at or above low is pending or finished
