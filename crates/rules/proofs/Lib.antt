@@ -16,3 +16,4 @@ pub mod Grid
 pub mod Border
 pub mod Signed
 pub mod Roots
+pub mod Paths

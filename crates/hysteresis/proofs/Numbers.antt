@@ -1,0 +1,132 @@
+-- What an accepted number says, and what each call answers by its number. Assumes nothing.
+use Prim.Native.Nat.{ℕ, _+_, _*_, _≤_, _<_}
+use mathlib.Core.Path.{_≡_, ap, _∙_}
+use mathlib.Core.Bool.{false}
+use mathlib.Core.List.{List}
+use lib.Dec.{leb, ltb}
+use lib.ListN.{length, getD}
+use lib.Ieee.{Float, lt}
+use borrow.Author.Tests.{ltb-false, leb-false, lt-leb, le-ltb, ne-eqb}
+use Rattle.rules.specs.Limits.{maxSide}
+use Rattle.rules.specs.Picture.{area, anyBelow, cleared}
+use Rattle.rules.specs.Walk.{State, state, mark, count, unusable, atLeast, classed, started, sliced, takes, mapped}
+use Rattle.rules.specs.Refusals.{first, badThreshold, startRows, sliceRows, mapRows}
+use Rattle.rules.specs.Calls as Calls
+use Rattle.rules.specs.Calls.{walkOf, sidesOf, afterStart, afterSlice, sliceTakes}
+use Rattle.rules.specs.declared.Size.{Size}
+use Rattle.rules.specs.declared.Thresholds.{Thresholds}
+use Rattle.rules.specs.declared.Walk.{Walk}
+use Rattle.rules.specs.declared.Started.{Started}
+use Rattle.rules.specs.declared.Sliced.{Sliced}
+use Rattle.rules.specs.declared.Mapped.{Mapped}
+use Rattle.rules.proofs.Bools.{neither}
+use Rattle.rules.proofs.Tests.{any-none, none-any}
+use Rattle.rules.proofs.Rows.{Sides, off, side-off, input-off, room-off}
+use Rattle.hysteresis.specs.Fit.{Fit}
+
+-- ---- row 9 as facts
+
+pub record Usable (d : Size) (s : State) : Type 0 where
+  pub pending : s .pending ≤ area d
+  pub held : (i : ℕ) → i < s .pending → getD (s .stack) i 0 < area d
+  pub marks : (q : ℕ) → q < area d → mark s q ≤ 3
+  pub room : s .pending + count 1 (s .marks) (area d) ≤ area d
+
+pub usable-facts : (d : Size) (s : State) → unusable d s ≡ false → Usable d s
+unfolding unusable
+usable-facts d s e =
+    let x = neither (ltb (area d) (s .pending)) _ e in
+    let y = neither (anyBelow (λ i. leb (area d) (getD (s .stack) i 0)) (s .pending)) _ (x .1) in
+    let z = neither (anyBelow (λ q. ltb 3 (getD (s .marks) q 0)) (area d)) _ (y .1) in
+    record {
+      pending = ltb-false _ _ (x .0);
+      held = λ i l. leb-false _ _ (any-none _ _ (y .0) i l);
+      marks = λ q l. ltb-false _ _ (any-none _ _ (z .0) q l);
+      room = ltb-false _ _ (z .1);
+    }
+
+pub usable-of : (d : Size) (s : State) → Usable d s → unusable d s ≡ false
+unfolding unusable
+usable-of d s u =
+    simp (
+      le-ltb _ _ (u .pending),
+      none-any (λ i. leb (area d) (getD (s .stack) i 0)) (s .pending) (λ i l. lt-leb _ _ (u .held i l)),
+      none-any (λ q. ltb 3 (getD (s .marks) q 0)) (area d) (λ q l. le-ltb _ _ (u .marks q l)),
+      le-ltb _ _ (u .room),
+    )
+
+-- ---- an accepted call
+
+pub slice-fit : (d : Size) (b : ℕ) (s : State) → first (sliceRows d b s) ≡ 0 → Fit d s
+slice-fit d b s e =
+    let p = off (sliceRows d b s) tt e in
+    let u = usable-facts d s (p .1 .1 .1 .1 .0) in
+    record { small = side-off d (p .0) .small; marks-long = room-off d (s .marks) (p .1 .0); stack-long = room-off d (s .stack) (p .1 .1 .0); room = u .room; held = u .held }
+
+pub record Mappable (d : Size) (s : State) (out : List ℕ) : Type 0 where
+  pub small : area d ≤ maxSide * maxSide
+  pub marks-long : area d ≤ length (s .marks)
+  pub out-long : area d ≤ length out
+
+pub mappable : (d : Size) (s : State) (out : List ℕ) → first (mapRows d s out) ≡ 0 → Mappable d s out
+mappable d s out e =
+    let p = off (mapRows d s out) tt e in
+    record { small = side-off d (p .0) .small; marks-long = room-off d (s .marks) (p .1 .0); out-long = room-off d out (p .1 .1 .1 .0) }
+
+pub record Startable (d : Size) (t : Thresholds) (magnitudes : List Float) (marks stack : List ℕ) : Type 0 where
+  pub sides : Sides d
+  pub long : length magnitudes ≡ area d
+  pub low : badThreshold (t .low) ≡ false
+  pub high : badThreshold (t .high) ≡ false
+  pub ordered : lt (t .high) (t .low) ≡ false
+  pub marks-long : area d ≤ length marks
+  pub stack-long : area d ≤ length stack
+
+pub startable : (d : Size) (t : Thresholds) (magnitudes : List Float) (marks stack : List ℕ) → first (startRows d t magnitudes marks stack) ≡ 0 → Startable d t magnitudes marks stack
+startable d t magnitudes marks stack e =
+    let p = off (startRows d t magnitudes marks stack) tt e in
+    let b = neither (badThreshold (t .low)) _ (p .1 .1 .0) in
+    record {
+      sides = side-off d (p .0);
+      long = input-off d magnitudes (p .1 .0);
+      low = b .0;
+      high = b .1;
+      ordered = p .1 .1 .1 .0;
+      marks-long = room-off d marks (p .1 .1 .1 .1 .0);
+      stack-long = room-off d stack (p .1 .1 .1 .1 .1 .0);
+    }
+
+-- ---- the answers: k is the number that the code worked out
+
+module _ (d : Size) (t : Thresholds) (magnitudes : List Float) (m s : List ℕ) (k : ℕ) (e : k ≡ first (startRows d t magnitudes m s)) where
+  pub start-refused : (k ≡ 0 → ⊥)
+      → _≡_ {A = Started × (List ℕ × List ℕ)} (record { refusal = k; walk = record { width = 0; height = 0; pending = 0 } }, (m, s)) (Calls.start d t magnitudes m s)
+  unfolding Calls.start
+  start-refused n = rw (← e, ne-eqb k 0 n)
+
+  pub start-made : (s′ m″ s″ : List ℕ) (p : ℕ) → k ≡ 0 → s′ ≡ cleared (area d) 0 s
+      → state m″ s″ p ≡ classed (atLeast (t .high) magnitudes) (atLeast (t .low) magnitudes) (area d) (state m s′ 0)
+      → _≡_ {A = Started × (List ℕ × List ℕ)} (record { refusal = 0; walk = walkOf d p }, (m″, s″)) (Calls.start d t magnitudes m s)
+  unfolding Calls.start afterStart started
+  start-made s′ m″ s″ p z f g =
+      let q : state m″ s″ p ≡ afterStart d t magnitudes m s = g ∙ ap (λ (x : List ℕ). classed (atLeast (t .high) magnitudes) (atLeast (t .low) magnitudes) (area d) (state m x 0)) f in
+      rw (← e, z, ← q)
+
+module _ (w : Walk) (b : ℕ) (m s : List ℕ) (k : ℕ) (e : k ≡ first (sliceRows (sidesOf w) b (state m s (w .pending)))) where
+  pub slice-refused : (k ≡ 0 → ⊥) → _≡_ {A = Sliced × (List ℕ × List ℕ)} (record { refusal = k; takes = 0; walk = w }, (m, s)) (Calls.slice w b m s)
+  unfolding Calls.slice afterSlice sliceTakes
+  slice-refused n = rw (← e, ne-eqb k 0 n)
+
+  pub slice-made : (m′ s′ : List ℕ) (p n : ℕ) → k ≡ 0 → state m′ s′ p ≡ sliced (sidesOf w) b (state m s (w .pending)) → n ≡ takes (sidesOf w) b (state m s (w .pending))
+      → _≡_ {A = Sliced × (List ℕ × List ℕ)} (record { refusal = 0; takes = n; walk = walkOf (sidesOf w) p }, (m′, s′)) (Calls.slice w b m s)
+  unfolding Calls.slice afterSlice sliceTakes
+  slice-made m′ s′ p n z f g = rw (← e, z, ← f, g)
+
+module _ (w : Walk) (m s o : List ℕ) (k : ℕ) (e : k ≡ first (mapRows (sidesOf w) (state m s (w .pending)) o)) where
+  pub map-refused : (k ≡ 0 → ⊥) → _≡_ {A = Mapped × List ℕ} (record { refusal = k; walk = w }, o) (Calls.map w m s o)
+  unfolding Calls.map
+  map-refused n = rw (← e, ne-eqb k 0 n)
+
+  pub map-made : (o′ : List ℕ) → k ≡ 0 → o′ ≡ mapped (area (sidesOf w)) m o → _≡_ {A = Mapped × List ℕ} (record { refusal = 0; walk = w }, o′) (Calls.map w m s o)
+  unfolding Calls.map
+  map-made o′ z f = rw (← e, z, f)

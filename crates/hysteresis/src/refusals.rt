@@ -1,0 +1,181 @@
+// The refusal number of each call: the rows of 01's table whose subject it has, in ascending order.
+use rules::ACCEPTED;
+use rules::MARK_FINISHED;
+use rules::MARK_WEAK;
+use rules::MAX_SIDE;
+use rules::MAX_THRESHOLD;
+use rules::REFUSED_BUDGET;
+use rules::REFUSED_INPUT;
+use rules::REFUSED_ORDER;
+use rules::REFUSED_PENDING;
+use rules::REFUSED_ROOM;
+use rules::REFUSED_SIDE;
+use rules::REFUSED_STATE;
+use rules::REFUSED_THRESHOLD;
+use rules::Size;
+use rules::Thresholds;
+ghost use mathlib.Core.Path.{_≡_};
+ghost use Prim.Native.Nat.{_*_, _≤_};
+ghost use lib.Dec.{leb, ltb};
+ghost use lib.ListN.{length, getD};
+ghost use Rattle.rules.specs.Limits.{maxSide};
+ghost use Rattle.rules.specs.Picture.{area, anyBelow};
+ghost use Rattle.rules.specs.Walk.{state, count, unusable};
+ghost use Rattle.rules.specs.Refusals.{first, sideRow, badThreshold, startRows, sliceRows, mapRows};
+
+// Row 1: a side is over the limit.
+fn side_over(size: Size) -> bool
+    ensures { λ r. ⌜ r ≡ sideRow size .applies ⌝ }
+{
+    (MAX_SIDE < size.width) | (MAX_SIDE < size.height)
+}
+
+// Whether a threshold is refused 5. A NaN is not below infinity; an infinity fails one of the other two comparisons.
+fn bad_threshold(t: f32) -> bool
+    ensures { λ r. ⌜ r ≡ badThreshold t ⌝ }
+{
+    let infinity = f32::from_bits(0x7f80_0000);
+    !(t < infinity) | ((t < 0.0) | (MAX_THRESHOLD < t))
+}
+
+// Whether one of the first p indexes is n or more.
+fn any_beyond(stack: &[u32], p: usize, n: usize) -> bool
+    requires { ⌜ p ≤ length (now stack) ⌝ }
+    ensures { λ r. ⌜ r ≡ anyBelow (λ i. leb n (getD (now (stack .entry)) i 0)) p ⌝ }
+{
+    let mut i = 0;
+    while i < p {
+        if n <= stack[i] as usize {
+            return true;
+        }
+        i += 1;
+    }
+    false
+}
+
+// Whether one of the first n marks is above 3.
+fn any_above(marks: &[u8], n: usize) -> bool
+    requires { ⌜ n ≤ length (now marks) ⌝ }
+    ensures { λ r. ⌜ r ≡ anyBelow (λ q. ltb 3 (getD (now (marks .entry)) q 0)) n ⌝ }
+{
+    let mut i = 0;
+    while i < n {
+        if MARK_FINISHED < marks[i] {
+            return true;
+        }
+        i += 1;
+    }
+    false
+}
+
+// How many of the first n marks are 1.
+fn count_weak(marks: &[u8], n: usize) -> usize
+    requires { ⌜ n ≤ length (now marks) ⌝ }
+    ensures { λ r. ⌜ (r ≡ count 1 (now (marks .entry)) n) × (r ≤ n) ⌝ }
+{
+    let mut weak = 0;
+    let mut i = 0;
+    while i < n {
+        if marks[i] == MARK_WEAK {
+            weak += 1;
+        }
+        i += 1;
+    }
+    weak
+}
+
+// Row 9: a state is unusable (01.Walk.10).
+fn unusable_state(marks: &[u8], stack: &[u32], pending: usize, size: Size) -> bool
+    requires { ⌜ (area size ≤ maxSide * maxSide) × (area size ≤ length (now marks)) × (area size ≤ length (now stack)) ⌝ }
+    ensures { λ r. ⌜ r ≡ unusable size (state (now (marks .entry)) (now (stack .entry)) pending) ⌝ }
+{
+    let n = size.width * size.height;
+    if n < pending {
+        return true;
+    }
+    if any_beyond(stack, pending, n) {
+        return true;
+    }
+    if any_above(marks, n) {
+        return true;
+    }
+    n < pending + count_weak(marks, n)
+}
+
+pub(crate) fn of_start(
+    magnitudes: &[f32],
+    size: Size,
+    thresholds: Thresholds,
+    marks: &[u8],
+    stack: &[u32],
+) -> u8
+    ensures { λ r. ⌜ r ≡ first (startRows size thresholds (now (magnitudes .entry)) (now (marks .entry)) (now (stack .entry))) ⌝ }
+{
+    if side_over(size) {
+        return REFUSED_SIDE;
+    }
+    let n = size.width * size.height;
+    if magnitudes.len() != n {
+        return REFUSED_INPUT;
+    }
+    if bad_threshold(thresholds.low) | bad_threshold(thresholds.high) {
+        return REFUSED_THRESHOLD;
+    }
+    if thresholds.high < thresholds.low {
+        return REFUSED_ORDER;
+    }
+    if marks.len() < n {
+        return REFUSED_ROOM;
+    }
+    if stack.len() < n {
+        return REFUSED_ROOM;
+    }
+    ACCEPTED
+}
+
+pub(crate) fn of_slice(marks: &[u8], stack: &[u32], pending: usize, size: Size, budget: usize) -> u8
+    ensures { λ r. ⌜ r ≡ first (sliceRows size budget (state (now (marks .entry)) (now (stack .entry)) pending)) ⌝ }
+{
+    if side_over(size) {
+        return REFUSED_SIDE;
+    }
+    let n = size.width * size.height;
+    if marks.len() < n {
+        return REFUSED_ROOM;
+    }
+    if stack.len() < n {
+        return REFUSED_ROOM;
+    }
+    if budget == 0 {
+        return REFUSED_BUDGET;
+    }
+    if unusable_state(marks, stack, pending, size) {
+        return REFUSED_STATE;
+    }
+    ACCEPTED
+}
+
+pub(crate) fn of_map(marks: &[u8], stack: &[u32], pending: usize, size: Size, out: &[u8]) -> u8
+    ensures { λ r. ⌜ r ≡ first (mapRows size (state (now (marks .entry)) (now (stack .entry)) pending) (now (out .entry))) ⌝ }
+{
+    if side_over(size) {
+        return REFUSED_SIDE;
+    }
+    let n = size.width * size.height;
+    if marks.len() < n {
+        return REFUSED_ROOM;
+    }
+    if stack.len() < n {
+        return REFUSED_ROOM;
+    }
+    if out.len() < n {
+        return REFUSED_ROOM;
+    }
+    if unusable_state(marks, stack, pending, size) {
+        return REFUSED_STATE;
+    }
+    if pending != 0 {
+        return REFUSED_PENDING;
+    }
+    ACCEPTED
+}
