@@ -15,7 +15,7 @@ use borrow.Author.Tests.{leb-true, leb-false, le-leb, lt-leb, ne-eqb}
 use Rattle.rules.specs.Sums.{wholeF32}
 use Rattle.rules.specs.Root.{capS, scaled, NearestRoot, nearRoot, rootOf}
 use Rattle.rules.proofs.Roots.{suc-sq, Near, near-is, Scaled, nearest, root-is}
-use Rattle.suppression.proofs.Guesses.{low-bits}
+use Rattle.suppression.proofs.Bits.{low-bits}
 
 -- ---- the two loops
 

@@ -8,7 +8,7 @@ use rules::REFUSED_SIDE;
 use rules::Size;
 ghost use mathlib.Core.Path.{_≡_};
 ghost use Prim.Native.Nat.{ℕ, _+_, _*_, _^_, _<_, _≤_};
-ghost use lib.ListN.{length};
+ghost use lib.ListN.{length, drop};
 ghost use Rattle.rules.specs.Limits.{maxSide};
 ghost use Rattle.rules.specs.Picture.{area, cleared, filled};
 ghost use Rattle.rules.specs.Sums.{plusZero};
@@ -61,6 +61,9 @@ pub fn sector(gx: i16, gy: i16) -> u8
 
 // ---- the root: guessed in floats, mended in whole numbers. Nothing is proved, or needed, of the guess.
 
+// From this S on the magnitude is 255.
+const CAP: u32 = 65025;
+
 // 4^16 to 4^23.
 const FOURS: [u64; 8] = [
     4294967296,
@@ -88,25 +91,27 @@ fn first_guess(f: f32) -> f32 {
     1.0
 }
 
-// Two of Heron's steps on.
+// The f32 nearest the root of every s below the cap, as a run over all of them shows, though no proof leans on it: two of Heron's steps,
+// and a third from the rest of the square, worked out in two halves of the digits since one f32 cannot hold it.
 fn guess(s: u32) -> f32 {
-    let c = if s < 65025 { s as u16 } else { 65024 };
+    let c = if s < CAP { s as u16 } else { 0 };
     let f = c as f32;
     let a = first_guess(f);
     let b = (a + f / a) * 0.5;
-    (b + f / b) * 0.5
+    let y = (b + f / b) * 0.5;
+    let wide = y * 4097.0;
+    let high = wide - (wide - y);
+    let low = y - high;
+    let rest = f - high * high - 2.0 * high * low - low * low;
+    y + rest / (y + y)
 }
 
-// The root's 24 binary digits, by one more step in f64, rounded.
-fn digits(y: f32, s: u32) -> u64
+// The 24 binary digits of a guess; 2^23 is 8,388,608.
+fn digits(y: f32) -> u64
     ensures { λ r. ⌜ r < 2 ^ 24 ⌝ }
 {
     if y > 0.0 {
-        let d = y as f64;
-        let e = (d + (s as f64) / d) * 0.5;
-        if e > 0.0 {
-            return (f64::to_bits(e) / 268435456 % 16777216 + 1) / 2 % 8388608 + 8388608;
-        }
+        return (f32::to_bits(y) % 8388608 + 8388608) as u64;
     }
     8388608
 }
@@ -133,7 +138,7 @@ fn root_from(s: u32, y: f32) -> f32
 {
     let k = 23 - (31 - u32::leading_zeros(s)) / 2;
     let t = (s as u64) * four_of((k - 16) as usize);
-    let m = mend(t, digits(y, s));
+    let m = mend(t, digits(y));
     f32::from_bits((150 - k) * 8388608 + ((m - 8388608) as u32))
 }
 
@@ -143,7 +148,7 @@ fn magnitude_from(s: u32, y: f32) -> f32
     if s == 0 {
         return 0.0;
     }
-    if s < 65025 {
+    if s < CAP {
         return root_from(s, y);
     }
     255.0
@@ -178,14 +183,26 @@ fn components_refusal(gx: &[i16], gy: &[i16], size: Size) -> u8
     ACCEPTED
 }
 
-// The magnitudes of n components.
+// A guess for each of n entries. It promises nothing of them, so that the loop is free to be fast.
+fn guesses(gx: &[i16], gy: &[i16], n: usize, magnitude: &mut [f32])
+    requires { ⌜ (length (now gx) ≡ n) × (length (now gy) ≡ n) × (n ≤ length (now magnitude)) ⌝ }
+    ensures { λ _. ⌜ drop n (now (magnitude .exit)) ≡ drop n (now (magnitude .entry)) ⌝ }
+{
+    let mut i = 0;
+    while i < n {
+        magnitude[i] = guess(energy(gx[i], gy[i]));
+        i += 1;
+    }
+}
+
+// The magnitudes of n entries, from any guesses.
 fn magnitudes(gx: &[i16], gy: &[i16], n: usize, magnitude: &mut [f32])
     requires { ⌜ (length (now gx) ≡ n) × (length (now gy) ≡ n) × (n ≤ length (now magnitude)) ⌝ }
     ensures { λ _. ⌜ now (magnitude .exit) ≡ filled n (magnitudeAt (now (gx .entry)) (now (gy .entry))) (now (magnitude .entry)) ⌝ }
 {
     let mut i = 0;
     while i < n {
-        magnitude[i] = magnitude_of(energy(gx[i], gy[i]));
+        magnitude[i] = magnitude_from(energy(gx[i], gy[i]), magnitude[i]);
         i += 1;
     }
 }
@@ -205,6 +222,7 @@ pub fn gradient_magnitude(gx: &[i16], gy: &[i16], size: Size, magnitude: &mut [f
     if magnitude.len() < n {
         return REFUSED_ROOM;
     }
+    guesses(gx, gy, n, magnitude);
     magnitudes(gx, gy, n, magnitude);
     ACCEPTED
 }

@@ -1,7 +1,7 @@
 -- `first_guess` runs: what is above 0 is no NaN, and the bits that it makes are no NaN's. Assumes nothing.
 use borrow.Author.Needs.{needs}
 use native.Mathlib.Omega.{arith}
-use Rattle.suppression.proofs.Guesses.{no-nan, low-bits}
+use Rattle.suppression.proofs.Bits.{no-nan, low-bits}
 use Rattle.suppression.proofs.first_guess.Statement.{statement}
 use Rattle.suppression.proofs.first_guess.Tie as tie
 

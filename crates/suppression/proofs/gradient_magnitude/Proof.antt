@@ -1,4 +1,4 @@
--- `gradient_magnitude` meets its contract: the rows' tests, then the loop. Assumes nothing.
+-- `gradient_magnitude` meets its contract: the rows' tests, then the two loops. Assumes nothing.
 use native.Mathlib.Omega.{arith}
 use denote.Ref.{now}
 use borrow.Author.Needs.{needs}
@@ -26,17 +26,20 @@ returns-2 c =
     let a = c .before .before .before .before .before .args in
     magnitude-room (a .size) (now (a .gx)) (now (a .gy)) _ (c .before .before .before .components-refusal .ensures) (now (a .magnitude)) (c .before .before .if1 .left) (c .if2 .taken)
 
+guesses-requires : tie.Need-guesses-requires
+guesses-requires c κs = let p = fit (c .before .before .before) in search needs
+
 magnitudes-requires : tie.Need-magnitudes-requires
-magnitudes-requires c κs = let p = fit (c .before .before .before) in search needs
+magnitudes-requires c κs = let p = fit (c .before .before .before .before .before .before .before) in search needs
 
 same-length : tie.Need-same-length
 same-length c = search needs
 
 returns-3 : tie.Need-returns-3
 returns-3 c =
-    let a = c .before .before .before .before .before .before .before .before .before .args in
-    magnitude-done (a .size) (now (a .gx)) (now (a .gy)) _ (c .before .before .before .before .before .before .before .components-refusal .ensures) (now (a .magnitude)) (c .before .before .before .before .before .before .if1 .left) (c .before .before .before .before .if2 .left) _
-    (c .before .before .magnitudes .ensures)
+    let a = c .before .before .before .before .before .before .before .before .before .before .before .before .before .args in
+    magnitude-done (a .size) (now (a .gx)) (now (a .gy)) _ (c .before .before .before .before .before .before .before .before .before .before .before .components-refusal .ensures) (now (a .magnitude)) (c .before .before .before .before .before .before .before .before .before .before .if1 .left) (c .before .before .before .before .before .before .before .before .if2 .left) _
+    (rw (c .before .before .before .before .before .before .guesses .ensures) at (c .before .before .magnitudes .ensures))
 
 pub gradient-magnitude-spec : {M : Type 1} → statement M
 gradient-magnitude-spec =
@@ -46,6 +49,7 @@ gradient-magnitude-spec =
     returns
     mul-n
     returns-2
+    guesses-requires
     magnitudes-requires
     same-length
     returns-3)

@@ -2,7 +2,7 @@
 use borrow.Author.Needs.{needs, zero≤, sfits-of}
 use native.Mathlib.Omega.{arith}
 use Prim.Native.Nat.{_-_, _<_, _≤_}
-use mathlib.Core.Path.{_≡_, refl, ap, _∙_}
+use mathlib.Core.Path.{_≡_, refl}
 use denote.Ref.{now}
 use lib.IntN.{pos}
 use lib.ListN.{length, getD, length-set}
@@ -39,8 +39,14 @@ shared-slice-copy-out-energy-2 c = search needs
 energy-requires : tie.Need-energy-requires Inv-loop μ-loop
 energy-requires c κs = search needs
 
-magnitude-of-requires : tie.Need-magnitude-of-requires Inv-loop μ-loop
-magnitude-of-requires c κs = search needs
+mul-magnitude-from : tie.Need-mul-magnitude-from Inv-loop μ-loop
+mul-magnitude-from c = search needs
+
+slice-read-magnitude-from : tie.Need-slice-read-magnitude-from Inv-loop μ-loop
+slice-read-magnitude-from c = search needs
+
+magnitude-from-requires : tie.Need-magnitude-from-requires Inv-loop μ-loop
+magnitude-from-requires c κs = search needs
 
 mul-magnitude : tie.Need-mul-magnitude Inv-loop μ-loop
 mul-magnitude c = search needs
@@ -56,16 +62,16 @@ loop-less c = search needs
 
 loop-again : tie.Need-loop-again Inv-loop μ-loop
 loop-again c =
-    let e = c .before .before .before in
+    let e = c .before .before .before .before in
     let l = e .before .before .loop in
     let a = e .before .before .before .before .args in
     let h : l .i < length (now (a .magnitude)) = omega arith in
     let x = toZ-ofZ w16 (getD (now (a .gx)) (l .i) (pos 0)) (sfits-of (e .energy-arg .given)) in
-    let y = toZ-ofZ w16 (getD (now (a .gy)) (l .i) (pos 0)) (sfits-of (c .before .before .energy-arg2 .given)) in (
+    let y = toZ-ofZ w16 (getD (now (a .gy)) (l .i) (pos 0)) (sfits-of (c .before .before .before .energy-arg2 .given)) in (
       search needs,
       simp length-set (l .inv .1),
       fill-more (l .i) (magnitudeAt (now (a .gx)) (now (a .gy))) (now (a .magnitude)) (l .magnitude) _ h (l .inv .2)
-          (magnitude-at (now (a .gx)) (now (a .gy)) (l .i) _ _ (rw (x, y) at (c .before .energy .ensures)) (c .magnitude-of .ensures)),
+          (magnitude-at (now (a .gx)) (now (a .gy)) (l .i) _ _ (rw (x, y) at (c .before .before .energy .ensures)) (c .magnitude-from .ensures)),
     )
 
 same-length : tie.Need-same-length Inv-loop μ-loop
@@ -88,7 +94,9 @@ magnitudes-spec =
     mul-energy-2
     shared-slice-copy-out-energy-2
     energy-requires
-    magnitude-of-requires
+    mul-magnitude-from
+    slice-read-magnitude-from
+    magnitude-from-requires
     mul-magnitude
     slice-write-magnitude
     add-i
