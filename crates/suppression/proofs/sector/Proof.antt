@@ -2,6 +2,7 @@
 use native.Mathlib.Omega.{arith}
 use mathlib.Core.Bool.{true, false}
 use mathlib.Core.Path.{_≡_, sym, _∙_}
+use Prim.Native.Nat.{_*_, _^_, _≤_}
 use lib.IntN.{natAbs}
 use mir.Syntax.{w16}
 use mir.ValLaws.{toZ-ofZ}
@@ -17,6 +18,10 @@ module _ (c : tie.After-size-of2) where
 
   b-is : c .size-of2 .result ≡ natAbs (c .before .before .args .gy)
   b-is = let s = c .before .before in rw (toZ-ofZ w16 (s .args .gy) (s .fits .gy)) at (c .size-of2 .ensures .is)
+
+  -- and their squares
+  squares : (c .before .size-of .result * c .before .size-of .result ≤ 2 ^ 30) × (c .size-of2 .result * c .size-of2 .result ≤ 2 ^ 30)
+  squares = (square-small _ (c .before .size-of .ensures .most), square-small _ (c .size-of2 .ensures .most))
 
 size-of-requires : tie.Need-size-of-requires
 size-of-requires c κs = search needs
@@ -46,19 +51,19 @@ mul-s : tie.Need-mul-s
 mul-s c = omega (arith, sum-small _ _ (c .before .before .size-of .ensures .most) (c .before .size-of2 .ensures .most))
 
 mul-if2 : tie.Need-mul-if2
-mul-if2 c = omega (arith, square-small _ (c .before .before .size-of .ensures .most))
+mul-if2 c = omega (arith, squares (c .before))
 
 mul-if2-2 : tie.Need-mul-if2-2
-mul-if2-2 c = omega (arith, square-small _ (c .before .before .size-of .ensures .most))
+mul-if2-2 c = omega (arith, squares (c .before))
 
 returns-2 : tie.Need-returns-2
 returns-2 c = along-x _ _ _ _ (a-is (c .before .before)) (b-is (c .before .before)) (c .before .if1 .left) (c .if2 .taken)
 
 mul-if3 : tie.Need-mul-if3
-mul-if3 c = omega (arith, square-small _ (c .before .before .size-of2 .ensures .most))
+mul-if3 c = omega (arith, squares (c .before .before))
 
 mul-if3-2 : tie.Need-mul-if3-2
-mul-if3-2 c = omega (arith, square-small _ (c .before .before .size-of2 .ensures .most))
+mul-if3-2 c = omega (arith, squares (c .before .before))
 
 returns-3 : tie.Need-returns-3
 returns-3 c =
