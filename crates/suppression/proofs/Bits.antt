@@ -1,0 +1,26 @@
+-- What a guess owes before its bits are read: that it is no NaN. Assumes nothing.
+use mathlib.Core.Path.{_≡_, sym, subst}
+use mathlib.Core.Bool.{true, not, _&&_}
+use Prim.Native.Nat.{ℕ, _%_, _<_, _≤_}
+use native.Mathlib.Omega.{arith}
+use lib.Dec.{T}
+use lib.Ieee.{Float, nan, inf, fin, binary32, binary64, ofBits, lt, isNan, nanBits, fits}
+use lib.Ieee.Bits.{nanBits-above}
+use lib.Ieee.Fits.{and-i, fits-widens}
+use borrow.Author.Tests.{le-ltb}
+
+-- what is above another number is one
+pub no-nan : (z x : Float) → lt z x ≡ true → T (not (isNan x))
+unfolding lt isNan
+no-nan z (inf s) e = tt
+no-nan z (fin s m d) e = tt
+no-nan nan nan e = subst T (sym e) tt
+no-nan (inf s) nan e = subst T (sym e) tt
+no-nan (fin s m d) nan e = subst T (sym e) tt
+
+pub widens : (z y : Float) → T (fits binary32 y) → lt z y ≡ true → T (fits binary64 y && not (isNan y))
+widens z y f e = and-i (fits binary64 y) (not (isNan y)) (fits-widens y f) (no-nan z y e)
+
+-- the pattern of a positive finite f32
+pub low-bits : (n : ℕ) → n < 0x7f80_0000 → T (not (nanBits binary32 n))
+low-bits n h = let l : n % 2147483648 ≤ 0x7f80_0000 = omega arith in rw (nanBits-above binary32 n, le-ltb _ _ l) tt

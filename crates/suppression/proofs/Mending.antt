@@ -1,0 +1,153 @@
+-- A guess mended to the nearest root: each step keeps what the loops need, and what passes both tests is the root of 01's own words.
+-- Assumes nothing.
+use mathlib.Core.Path.{_≡_, refl, sym, ap, _∙_}
+use mathlib.Core.Bool.{Bool, true, false, not, cond}
+use Prim.Native.Nat.{ℕ, zero, suc, _+_, _-_, _*_, _/_, _%_, _^_, _<_, _≤_}
+use native.Mathlib.Nat.{mul-le-mul, mul-le-mul-left, mul-le-mul-right, add-mul, zero-add, pow-succ', pow-le-pow-right, lt-irrefl, lt-of-not-le, not-le-of-lt, le-trans}
+use native.Mathlib.Omega.{arith}
+use lib.Dec.{T, leb, ltb, eqb}
+use lib.IntN.{pos, negsuc}
+use lib.Pow.{pow-mono, pow-add}
+use lib.Count.{leadingZeros, leading-top, trailingZeros}
+use lib.ListN.{getD}
+use lib.Ieee.{fin, binary32, odd, minus, ofBits, ofInt, nanBits}
+use borrow.Author.Tests.{leb-true, leb-false, le-leb, lt-leb, ne-eqb}
+use Rattle.rules.specs.Sums.{wholeF32}
+use Rattle.rules.specs.Root.{capS, scaled, NearestRoot, nearRoot, rootOf}
+use Rattle.rules.proofs.Roots.{suc-sq, Near, near-is, Scaled, nearest, root-is}
+use Rattle.suppression.proofs.Bits.{low-bits}
+
+-- ---- the two loops
+
+pub square-fits : (m : ℕ) → m < 2 ^ 24 → m * m ≤ (2 ^ 24 - 1) * (2 ^ 24 - 1)
+square-fits m h = let l : m ≤ 2 ^ 24 - 1 = omega arith in mul-le-mul l l
+
+-- too low, so one more still has 24 binary digits
+pub more-fits : (m t : ℕ) → m < 2 ^ 24 → t ≤ 2 ^ 48 - 2 ^ 32 → m * m + m < t → m + 1 < 2 ^ 24
+more-fits m t h u l =
+    let no : 2 ^ 24 - 1 ≤ m → ⊥ = λ k. lt-irrefl t (omega (arith, mul-le-mul k k)) in
+    omega arith
+
+-- too high, so not 0
+pub some : (m t : ℕ) → 0 < t → t + m ≤ m * m → 0 < m
+some zero t h l = absurd (omega arith)
+some (suc m) t h l = omega arith
+
+-- and one less is not too low
+pub less-reaches : (m t : ℕ) → 0 < t → t + m ≤ m * m → t ≤ (m - 1) * (m - 1) + (m - 1)
+less-reaches m t h l =
+    let p = some m t h l in
+    let e : m - 1 + 1 ≡ m = omega arith in
+    omega (arith, ap (λ (x : ℕ). x * x) e, suc-sq (m - 1))
+
+-- ---- the scale, by the leading zeros
+
+four : (i : ℕ) → 4 ^ i ≡ 2 ^ (i + i)
+four zero = refl
+four (suc i) =
+    let e : suc i + suc i ≡ suc (suc (i + i)) = omega arith in
+    omega (arith, four i, pow-succ' 4 i, ap (λ (x : ℕ). 2 ^ x) e, pow-succ' 2 (suc (i + i)), pow-succ' 2 (i + i))
+
+pub record Scale (s k : ℕ) : Type 0 where
+  pub least : 16 ≤ k
+  pub most : k ≤ 23
+  pub scales : Scaled s k
+
+by-top : (s j : ℕ) → 2 ^ j ≤ s → s < 2 ^ suc j → s < capS → Scale s (23 - j / 2)
+by-top s j l u h =
+    let i = j / 2 in
+    let k = 23 - i in
+    let few : 16 ≤ j → ⊥ = λ g. lt-irrefl s (omega (arith, pow-mono g)) in
+    let a : i + i ≤ j = omega arith in
+    let b : suc j ≤ suc i + suc i = omega arith in
+    let e : i + k ≡ 23 = omega arith in
+    let f : suc i + k ≡ 24 = omega arith in
+    let w : 16 ≤ k = omega arith in
+    let lo : 4 ^ i ≤ s = omega (arith, four i, pow-mono a) in
+    let hi : s + 1 ≤ 4 ^ suc i = omega (arith, four (suc i), pow-mono b) in
+    let one : 4 ^ i * 4 ^ k ≡ 4 ^ 23 = sym (pow-add 4 i k) ∙ ap (λ (x : ℕ). 4 ^ x) e in
+    let two : 4 ^ suc i * 4 ^ k ≡ 4 ^ 24 = sym (pow-add 4 (suc i) k) ∙ ap (λ (x : ℕ). 4 ^ x) f in
+    record {
+      least = w;
+      most = omega arith;
+      scales = record {
+        low = omega (arith, mul-le-mul-right (4 ^ k) lo);
+        high = omega (arith, mul-le-mul-right (4 ^ k) hi, add-mul s 1 (4 ^ k), pow-le-pow-right {n = 4} (omega arith) w);
+      };
+    }
+
+-- the code's k
+abbrev pub shift : ℕ → ℕ
+shift s = 23 - (31 - leadingZeros 32 s) / 2
+
+pub shift-is : (s : ℕ) → 0 < s → s < capS → (leadingZeros 32 s ≤ 31) × Scale s (shift s)
+shift-is s p h =
+    let t = leading-top 32 s p (omega arith) in
+    let e : 31 - leadingZeros 32 s ≡ t .0 = omega (arith, t .1) in
+    (omega (arith, t .1), rw e (by-top s (t .0) (t .2) (t .3) h))
+
+-- ---- the f32 whose bits are k's exponent and m's digits
+
+-- an odd form does not depend on the unit that it is counted in
+minus-case : (b : Bool) (l k t : ℕ) → k ≤ l → leb k t ≡ b → minus (l - k + t) l ≡ cond b (pos (t - k)) (negsuc (k - suc t))
+minus-case true l k t h e =
+    let g : k ≤ t = leb-true k t e in
+    let a : l ≤ l - k + t = omega arith in
+    let d : l - k + t - l ≡ t - k = omega arith in
+    rw (le-leb l (l - k + t) a, d)
+minus-case false l k t h e =
+    let g : t < k = leb-false k t e in
+    let a : l - k + t < l = omega arith in
+    let d : l - suc (l - k + t) ≡ k - suc t = omega arith in
+    rw (lt-leb l (l - k + t) a, d)
+
+odd-unit : (d : ℕ) (s : Bool) (q l k : ℕ) → k ≤ l → odd d s q (l - k) l ≡ odd d s q 0 k
+unfolding odd
+odd-unit d s zero l k h = refl
+odd-unit d s (suc q) l k h =
+    let t = trailingZeros d (suc q) in
+    ap (fin s (suc q / 2 ^ t)) (minus-case _ l k t h refl ∙ ap (λ (x : ℕ). minus x k) (sym (zero-add t)))
+
+-- the bits that the code makes
+abbrev pub pattern : ℕ → ℕ → ℕ
+pattern k m = (150 - k) * 8388608 + (m - 8388608)
+
+pattern-is : (k m : ℕ) → k ≤ 23 → 2 ^ 23 ≤ m → m ≤ 2 ^ 24 - 1 → ofBits binary32 (pattern k m) ≡ scaled m k
+unfolding ofBits
+pattern-is k m h l u =
+    let g : pattern k m < 2147483648 = omega arith in
+    let field : pattern k m % 2147483648 / 8388608 ≡ suc (149 - k) = omega arith in
+    let digits : pattern k m % 8388608 ≡ m - 8388608 = omega arith in
+    let n : suc (149 - k) ≡ 255 → ⊥ = λ e. omega arith in
+    let s : 8388608 + (m - 8388608) ≡ m = omega arith in
+    rw (lt-leb 2147483648 (pattern k m) g, field, digits, ne-eqb (suc (149 - k)) 255 n, s) (odd-unit 24 false m 149 k (omega arith))
+
+-- ---- the code's way: t is s times the table's power of four, m what the loops leave
+
+module _ (s f : ℕ) (p : 0 < s) (h : s < capS) (e : f ≡ 4 ^ (shift s - 16 + 16)) where
+  scale : Scale s (shift s)
+  scale = shift-is s p h .1
+
+  times : s * f ≡ s * 4 ^ shift s
+  times = let q : shift s - 16 + 16 ≡ shift s = omega (arith, scale .least) in ap (λ (x : ℕ). s * x) (e ∙ ap (λ (x : ℕ). 4 ^ x) q)
+
+  pub low : 2 ^ 46 ≤ s * f
+  low = rw times (scale .scales .low)
+
+  pub high : s * f ≤ 2 ^ 48 - 2 ^ 32
+  high = rw times (scale .scales .high)
+
+  module _ (m : ℕ) (q : m ≡ nearRoot (s * f)) where
+    pub found : NearestRoot s m (shift s)
+    found = nearest s m (shift s) (scale .scales) (rw (q, times) (near-is (s * 4 ^ shift s) (omega (arith, scale .scales .low)) (omega (arith, scale .scales .high))))
+
+    pub bits-fine : T (not (nanBits binary32 (pattern (shift s) m)))
+    bits-fine = low-bits (pattern (shift s) m) (omega (arith, found .least, found .most))
+
+    pub bits-are : ofBits binary32 (pattern (shift s) m) ≡ rootOf s
+    bits-are = pattern-is (shift s) m (scale .most) (found .least) (found .most) ∙ root-is s h m (shift s) p found
+
+-- 255 as the code writes it
+pub cap-is : ofBits binary32 0x437f_0000 ≡ wholeF32 (pos 255)
+unfolding ofBits ofInt
+cap-is = refl

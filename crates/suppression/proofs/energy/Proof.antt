@@ -1,0 +1,33 @@
+-- `energy` meets its contract: the squares of two sizes. Assumes nothing.
+use native.Mathlib.Omega.{arith}
+use mir.Syntax.{w16}
+use mir.ValLaws.{toZ-ofZ}
+use borrow.Author.Needs.{needs}
+use Rattle.suppression.proofs.Components.{square-small, energy-is}
+use Rattle.suppression.proofs.energy.Statement.{statement}
+use Rattle.suppression.proofs.energy.Tie as tie
+
+size-of-requires : tie.Need-size-of-requires
+size-of-requires c κs = search needs
+
+size-of-requires-2 : tie.Need-size-of-requires-2
+size-of-requires-2 c κs = search needs
+
+mul-result : tie.Need-mul-result
+mul-result c = omega (arith, square-small _ (c .before .size-of .ensures .most))
+
+mul-result-2 : tie.Need-mul-result-2
+mul-result-2 c = omega (arith, square-small _ (c .size-of2 .ensures .most))
+
+add-result : tie.Need-add-result
+add-result c = omega (arith, square-small _ (c .before .size-of .ensures .most), square-small _ (c .size-of2 .ensures .most))
+
+returns : tie.Need-returns
+returns c =
+    let s = c .before .before in
+    energy-is (s .args .gx) (s .args .gy) _ _
+    (rw (toZ-ofZ w16 (s .args .gx) (s .fits .gx)) at (c .before .size-of .ensures .is))
+    (rw (toZ-ofZ w16 (s .args .gy) (s .fits .gy)) at (c .size-of2 .ensures .is))
+
+pub energy-spec : {M : Type 1} → statement M
+energy-spec = tie.close (tie.spec size-of-requires size-of-requires-2 mul-result mul-result-2 add-result returns)

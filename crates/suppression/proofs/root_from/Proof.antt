@@ -1,0 +1,85 @@
+-- `root_from` meets its contract: what is mended passes 01's tests, and only the root does. Assumes nothing.
+use borrow.Author.Needs.{needs}
+use native.Mathlib.Omega.{arith}
+use Rattle.rules.specs.Root.{NearestRoot}
+use Rattle.suppression.proofs.Mending.{shift, shift-is, low, high, found, bits-fine, bits-are}
+use Rattle.suppression.proofs.root_from.Statement.{statement}
+use Rattle.suppression.proofs.root_from.Tie as tie
+
+sub-k : tie.Need-sub-k
+sub-k c = shift-is (c .args .s) (c .pre .0) (c .pre .1) .0
+
+sub-k-2 : tie.Need-sub-k-2
+sub-k-2 c = search needs
+
+sub-four-of : tie.Need-sub-four-of
+sub-four-of c = shift-is (c .args .s) (c .pre .0) (c .pre .1) .1 .least
+
+cast-four-of : tie.Need-cast-four-of
+cast-four-of c = search needs
+
+four-of-requires : tie.Need-four-of-requires
+four-of-requires c κs = search needs
+
+mul-t : tie.Need-mul-t
+mul-t c = let a = c .before in omega (arith, high (a .args .s) _ (a .pre .0) (a .pre .1) (c .four-of .ensures))
+
+digits-requires : tie.Need-digits-requires
+digits-requires c κs = search needs
+
+mend-requires : tie.Need-mend-requires
+mend-requires c κs =
+    let a = c .before .before in
+    record {
+      low = low (a .args .s) _ (a .pre .0) (a .pre .1) (c .before .four-of .ensures);
+      high = high (a .args .s) _ (a .pre .0) (a .pre .1) (c .before .four-of .ensures);
+      most = c .digits .ensures;
+    }
+
+root : (c : tie.After-mend) → NearestRoot (c .before .before .before .args .s) (c .mend .result) (shift (c .before .before .before .args .s))
+root c = let a = c .before .before .before in found (a .args .s) _ (a .pre .0) (a .pre .1) (c .before .before .four-of .ensures) _ (c .mend .ensures)
+
+sub-result : tie.Need-sub-result
+sub-result c = search needs
+
+mul-result : tie.Need-mul-result
+mul-result c = search needs
+
+sub-result-2 : tie.Need-sub-result-2
+sub-result-2 c = root c .least
+
+cast-result : tie.Need-cast-result
+cast-result c = omega (arith, root c .most)
+
+add-result : tie.Need-add-result
+add-result c = omega (arith, root c .most)
+
+float-from-bits-result : tie.Need-float-from-bits-result
+float-from-bits-result c =
+    let a = c .before .before .before in
+    bits-fine (a .args .s) _ (a .pre .0) (a .pre .1) (c .before .before .four-of .ensures) _ (c .mend .ensures)
+
+returns : tie.Need-returns
+returns c =
+    let a = c .before .before .before in
+    bits-are (a .args .s) _ (a .pre .0) (a .pre .1) (c .before .before .four-of .ensures) _ (c .mend .ensures)
+
+pub root-from-spec : {M : Type 1} → statement M
+root-from-spec =
+    tie.close
+    (tie.spec
+    sub-k
+    sub-k-2
+    sub-four-of
+    cast-four-of
+    four-of-requires
+    mul-t
+    digits-requires
+    mend-requires
+    sub-result
+    mul-result
+    sub-result-2
+    cast-result
+    add-result
+    float-from-bits-result
+    returns)

@@ -1,0 +1,100 @@
+-- `suppressed` meets its contract, by the sector's step and one test. Assumes nothing.
+use borrow.Author.Needs.{needs, sfits-of}
+use native.Mathlib.Omega.{arith}
+use Prim.Native.Nat.{ℕ}
+use mathlib.Core.Path.{_≡_}
+use mathlib.Core.Bool.{true, false}
+use denote.Ref.{now}
+use lib.IntN.{pos}
+use lib.ListN.{getD}
+use mir.Syntax.{w16}
+use mir.ValLaws.{toZ-ofZ}
+use Rattle.rules.specs.Sector.{sectorOf}
+use Rattle.suppression.proofs.Neighbours.{kept-is}
+use borrow.Author.Needs.{needs}
+use Rattle.suppression.proofs.suppressed.Statement.{statement}
+use Rattle.suppression.proofs.suppressed.Tie as tie
+
+-- the sector of the components themselves
+sector-is : (c : tie.After-sector) → let a = c .before .before .before .before .args in
+    c .sector .result ≡ sectorOf (getD (now (a .gx)) (a .i) (pos 0)) (getD (now (a .gy)) (a .i) (pos 0))
+sector-is c =
+    let a = c .before .before .before .before .args in
+    let x = toZ-ofZ w16 (getD (now (a .gx)) (a .i) (pos 0)) (sfits-of (c .before .before .sector-arg .given)) in
+    let y = toZ-ofZ w16 (getD (now (a .gy)) (a .i) (pos 0)) (sfits-of (c .before .sector-arg2 .given)) in
+    rw (x, y) at (c .sector .ensures)
+
+mul-sector : tie.Need-mul-sector
+mul-sector c = search needs
+
+shared-slice-copy-out-sector : tie.Need-shared-slice-copy-out-sector
+shared-slice-copy-out-sector c = search needs
+
+mul-sector-2 : tie.Need-mul-sector-2
+mul-sector-2 c = search needs
+
+shared-slice-copy-out-sector-2 : tie.Need-shared-slice-copy-out-sector-2
+shared-slice-copy-out-sector-2 c = search needs
+
+sector-requires : tie.Need-sector-requires
+sector-requires c κs = search needs
+
+neighbour-step-requires : tie.Need-neighbour-step-requires
+neighbour-step-requires c κs = search needs
+
+sub-before : tie.Need-sub-before
+sub-before c = omega (arith, c .neighbour-step .ensures .most)
+
+add-after : tie.Need-add-after
+add-after c = omega (arith, c .neighbour-step .ensures .most)
+
+mul-m : tie.Need-mul-m
+mul-m c = search needs
+
+shared-slice-read-m : tie.Need-shared-slice-read-m
+shared-slice-read-m c = search needs
+
+mul-if1 : tie.Need-mul-if1
+mul-if1 c = search needs
+
+shared-slice-read-if1 : tie.Need-shared-slice-read-if1
+shared-slice-read-if1 c = search needs
+
+mul-if1-2 : tie.Need-mul-if1-2
+mul-if1-2 c = omega (arith, c .before .before .neighbour-step .ensures .most)
+
+shared-slice-read-if1-2 : tie.Need-shared-slice-read-if1-2
+shared-slice-read-if1-2 c = omega (arith, c .before .before .before .neighbour-step .ensures .most)
+
+returns : tie.Need-returns
+returns c =
+    let n = c .before .before .before .before in
+    let a = n .before .before .before .before .before .args in
+    kept-is (a .width) (now (a .magnitude)) (now (a .gx)) (now (a .gy)) (a .i) _ _ (sector-is (n .before)) (n .neighbour-step .ensures .is) true (c .if1 .taken)
+
+returns-2 : tie.Need-returns-2
+returns-2 c =
+    let n = c .before .before .before .before in
+    let a = n .before .before .before .before .before .args in
+    kept-is (a .width) (now (a .magnitude)) (now (a .gx)) (now (a .gy)) (a .i) _ _ (sector-is (n .before)) (n .neighbour-step .ensures .is) false (c .if1 .left)
+
+pub suppressed-spec : {M : Type 1} → statement M
+suppressed-spec =
+    tie.close
+    (tie.spec
+    mul-sector
+    shared-slice-copy-out-sector
+    mul-sector-2
+    shared-slice-copy-out-sector-2
+    sector-requires
+    neighbour-step-requires
+    sub-before
+    add-after
+    mul-m
+    shared-slice-read-m
+    mul-if1
+    shared-slice-read-if1
+    mul-if1-2
+    shared-slice-read-if1-2
+    returns
+    returns-2)

@@ -1,0 +1,65 @@
+-- What the private functions are lent and give back: the sizes that keep every index and every product inside.
+use Prim.Native.Nat.{ℕ, _+_, _-_, _*_, _^_, _<_, _≤_}
+use mathlib.Core.Path.{_≡_}
+use mathlib.Core.List.{List, [], _∷_}
+use lib.ListN.{length}
+use lib.IntN.{ℤ, natAbs}
+use lib.Ieee.{Float}
+use Rattle.rules.specs.Limits.{maxSide}
+use Rattle.rules.specs.Picture.{area}
+use Rattle.rules.specs.Refusals.{Rule, sideRow, inputRow}
+use Rattle.rules.specs.declared.Size.{Size}
+use Rattle.suppression.specs.Steps.{stepOf}
+
+-- the size of an i16
+pub record SizeOf (g : ℤ) (r : ℕ) : Type 0 where
+  pub is : r ≡ natAbs g
+  pub most : r ≤ 2 ^ 15
+
+-- a number whose root has 24 binary digits, and a guess that has no more
+pub record Target (t g : ℕ) : Type 0 where
+  pub low : 2 ^ 46 ≤ t
+  pub high : t ≤ 2 ^ 48 - 2 ^ 32
+  pub most : g < 2 ^ 24
+
+-- the rows that both calls begin with
+abbrev pub componentRows : Size → List ℤ → List ℤ → List Rule
+componentRows d gx gy = sideRow d ∷ inputRow d gx ∷ inputRow d gy ∷ []
+
+-- the magnitudes and the components of one picture
+pub record Pictures (d : Size) (magnitude : List Float) (gx gy : List ℤ) : Type 0 where
+  pub width : d .width ≤ maxSide
+  pub height : d .height ≤ maxSide
+  pub long : length magnitude ≡ area d
+  pub long-x : length gx ≡ area d
+  pub long-y : length gy ≡ area d
+
+-- its row y, which begins at `start` and is `width` long
+pub record AnyRow (d : Size) (magnitude : List Float) (gx gy : List ℤ) (y start width : ℕ) : Type 0 where
+  pub pictures : Pictures d magnitude gx gy
+  pub inside : y < d .height
+  pub begins : start ≡ y * d .width
+  pub wide : width ≡ d .width
+
+-- a row with a row before it and one after it, and with inner pixels
+pub record InnerRow (magnitude : List Float) (gx gy : List ℤ) (start width : ℕ) : Type 0 where
+  pub least : 3 ≤ width
+  pub most : width ≤ maxSide
+  pub before : width ≤ start
+  pub after : start + width + width ≤ length magnitude
+  pub long-x : length gx ≡ length magnitude
+  pub long-y : length gy ≡ length magnitude
+
+-- a pixel with all its neighbours
+pub record Inside (width : ℕ) (magnitude : List Float) (gx gy : List ℤ) (i : ℕ) : Type 0 where
+  pub least : 0 < width
+  pub most : width ≤ maxSide
+  pub before : width + 1 ≤ i
+  pub after : i + width + 1 < length magnitude
+  pub long-x : length gx ≡ length magnitude
+  pub long-y : length gy ≡ length magnitude
+
+-- a step, which leads at most to the next pixel of the row beside
+pub record StepIs (sector width r : ℕ) : Type 0 where
+  pub is : r ≡ stepOf sector width
+  pub most : r ≤ width + 1

@@ -1,0 +1,356 @@
+// Canny's gradient stages: the magnitude of a gradient, its sector, and non-maximum suppression. Each public call refuses by number
+// or runs by document 01's rules.
+use rules::ACCEPTED;
+use rules::MAX_SIDE;
+use rules::REFUSED_INPUT;
+use rules::REFUSED_ROOM;
+use rules::REFUSED_SIDE;
+use rules::Size;
+ghost use mathlib.Core.Path.{_≡_};
+ghost use Prim.Native.Nat.{ℕ, _+_, _*_, _^_, _<_, _≤_};
+ghost use lib.ListN.{length, drop};
+ghost use Rattle.rules.specs.Limits.{maxSide};
+ghost use Rattle.rules.specs.Picture.{area, cleared, filled};
+ghost use Rattle.rules.specs.Sums.{plusZero};
+ghost use Rattle.rules.specs.Gradient.{energy};
+ghost use Rattle.rules.specs.Root.{capS, nearRoot, rootOf, magnitudeOf};
+ghost use Rattle.rules.specs.Sector.{sectorOf};
+ghost use Rattle.rules.specs.Suppression.{suppressedAt};
+ghost use Rattle.rules.specs.Refusals.{first};
+ghost use Rattle.rules.specs.Calls.{magnitudeAt, painted, gradientMagnitude, nonMaximumSuppression};
+ghost use Rattle.suppression.specs.Lent.{SizeOf, Target, StepIs, componentRows, Inside, InnerRow, AnyRow, Pictures};
+ghost use Rattle.suppression.specs.Steps.{keptAt, rowAt};
+
+// ---- components
+
+// The size of a component: the one place where its sign is taken off. -32,768 has one too.
+fn size_of(g: i16) -> u32
+    ensures { λ r. ⌜ SizeOf g r ⌝ }
+{
+    let z = g as i32;
+    if z < 0 { (0 - z) as u32 } else { z as u32 }
+}
+
+// S, at most 2^31 on any two components.
+fn energy(gx: i16, gy: i16) -> u32
+    ensures { λ r. ⌜ r ≡ energy gx gy ⌝ }
+{
+    let a = size_of(gx);
+    let b = size_of(gy);
+    a * a + b * b
+}
+
+// The sector of a gradient, by squares (01.Gradient.7 to 01.Gradient.11).
+pub fn sector(gx: i16, gy: i16) -> u8
+    ensures { λ r. ⌜ r ≡ sectorOf gx gy ⌝ }
+{
+    let a = size_of(gx) as u64;
+    let b = size_of(gy) as u64;
+    if a + b == 0 {
+        return 0;
+    }
+    let s = (a + b) * (a + b);
+    if s < 2 * (a * a) {
+        return 0;
+    }
+    if s < 2 * (b * b) {
+        return 90;
+    }
+    if (gx < 0) == (gy < 0) { 45 } else { 135 }
+}
+
+// ---- the root: guessed in floats, mended in whole numbers. Nothing is proved, or needed, of the guess.
+
+// From this S on the magnitude is 255.
+const CAP: u32 = 65025;
+
+// 4^16 to 4^23.
+const FOURS: [u64; 8] = [
+    4294967296,
+    17179869184,
+    68719476736,
+    274877906944,
+    1099511627776,
+    4398046511104,
+    17592186044416,
+    70368744177664,
+];
+
+fn four_of(i: usize) -> u64
+    requires { ⌜ i < 8 ⌝ }
+    ensures { λ r. ⌜ r ≡ 4 ^ (i + 16) ⌝ }
+{
+    FOURS[i]
+}
+
+// A float within 4 in 100 of the root of f, from its bits.
+fn first_guess(f: f32) -> f32 {
+    if f > 0.0 {
+        return f32::from_bits(f32::to_bits(f) / 2 % 1073741824 + 532487669);
+    }
+    1.0
+}
+
+// The f32 nearest the root of every s below the cap, as a run over all of them shows, though no proof leans on it: two of Heron's steps,
+// and a third from the rest of the square, worked out in two halves of the digits since one f32 cannot hold it.
+fn guess(s: u32) -> f32 {
+    let c = if s < CAP { s as u16 } else { 0 };
+    let f = c as f32;
+    let a = first_guess(f);
+    let b = (a + f / a) * 0.5;
+    let y = (b + f / b) * 0.5;
+    let wide = y * 4097.0;
+    let high = wide - (wide - y);
+    let low = y - high;
+    let rest = f - high * high - 2.0 * high * low - low * low;
+    y + rest / (y + y)
+}
+
+// The 24 binary digits of a guess; 2^23 is 8,388,608.
+fn digits(y: f32) -> u64
+    ensures { λ r. ⌜ r < 2 ^ 24 ⌝ }
+{
+    if y > 0.0 {
+        return (f32::to_bits(y) % 8388608 + 8388608) as u64;
+    }
+    8388608
+}
+
+// The whole number nearest the root of t, from any start.
+fn mend(t: u64, g: u64) -> u64
+    requires { ⌜ Target t g ⌝ }
+    ensures { λ r. ⌜ r ≡ nearRoot t ⌝ }
+{
+    let mut m = g;
+    while m * m + m < t {
+        m += 1;
+    }
+    while t + m <= m * m {
+        m -= 1;
+    }
+    m
+}
+
+// The f32 nearest the root of s, from any guess.
+fn root_from(s: u32, y: f32) -> f32
+    requires { ⌜ (0 < s) × (s < capS) ⌝ }
+    ensures { λ r. ⌜ r ≡ rootOf s ⌝ }
+{
+    let k = 23 - (31 - u32::leading_zeros(s)) / 2;
+    let t = (s as u64) * four_of((k - 16) as usize);
+    let m = mend(t, digits(y));
+    f32::from_bits((150 - k) * 8388608 + ((m - 8388608) as u32))
+}
+
+fn magnitude_from(s: u32, y: f32) -> f32
+    ensures { λ r. ⌜ r ≡ magnitudeOf s ⌝ }
+{
+    if s == 0 {
+        return 0.0;
+    }
+    if s < CAP {
+        return root_from(s, y);
+    }
+    255.0
+}
+
+// The magnitude of S: 0, the nearest root, or 255 (01.Gradient.4).
+pub fn magnitude_of(s: u32) -> f32
+    ensures { λ r. ⌜ r ≡ magnitudeOf s ⌝ }
+{
+    magnitude_from(s, guess(s))
+}
+
+// ---- the calls
+
+// Rows 1 and 2 of the refusals, for the two components.
+fn components_refusal(gx: &[i16], gy: &[i16], size: Size) -> u8
+    ensures { λ r. ⌜ r ≡ first (componentRows size (now (gx .entry)) (now (gy .entry))) ⌝ }
+{
+    if MAX_SIDE < size.width {
+        return REFUSED_SIDE;
+    }
+    if MAX_SIDE < size.height {
+        return REFUSED_SIDE;
+    }
+    let n = size.width * size.height;
+    if gx.len() != n {
+        return REFUSED_INPUT;
+    }
+    if gy.len() != n {
+        return REFUSED_INPUT;
+    }
+    ACCEPTED
+}
+
+// A guess for each of n entries. It promises nothing of them, so that the loop is free to be fast.
+fn guesses(gx: &[i16], gy: &[i16], n: usize, magnitude: &mut [f32])
+    requires { ⌜ (length (now gx) ≡ n) × (length (now gy) ≡ n) × (n ≤ length (now magnitude)) ⌝ }
+    ensures { λ _. ⌜ drop n (now (magnitude .exit)) ≡ drop n (now (magnitude .entry)) ⌝ }
+{
+    let mut i = 0;
+    while i < n {
+        magnitude[i] = guess(energy(gx[i], gy[i]));
+        i += 1;
+    }
+}
+
+// The magnitudes of n entries, from any guesses.
+fn magnitudes(gx: &[i16], gy: &[i16], n: usize, magnitude: &mut [f32])
+    requires { ⌜ (length (now gx) ≡ n) × (length (now gy) ≡ n) × (n ≤ length (now magnitude)) ⌝ }
+    ensures { λ _. ⌜ now (magnitude .exit) ≡ filled n (magnitudeAt (now (gx .entry)) (now (gy .entry))) (now (magnitude .entry)) ⌝ }
+{
+    let mut i = 0;
+    while i < n {
+        magnitude[i] = magnitude_from(energy(gx[i], gy[i]), magnitude[i]);
+        i += 1;
+    }
+}
+
+// The magnitude at every pixel.
+pub fn gradient_magnitude(gx: &[i16], gy: &[i16], size: Size, magnitude: &mut [f32]) -> u8
+    ensures { λ r. ⌜
+        (r, now (magnitude .exit))
+        ≡ gradientMagnitude size (now (gx .entry)) (now (gy .entry)) (now (magnitude .entry))
+        ⌝ }
+{
+    let refusal = components_refusal(gx, gy, size);
+    if refusal != ACCEPTED {
+        return refusal;
+    }
+    let n = size.width * size.height;
+    if magnitude.len() < n {
+        return REFUSED_ROOM;
+    }
+    guesses(gx, gy, n, magnitude);
+    magnitudes(gx, gy, n, magnitude);
+    ACCEPTED
+}
+
+// How many entries away from a pixel the two neighbours of its sector stand: one before it, the other after it (01.Gradient.13 to
+// 01.Gradient.17).
+fn neighbour_step(sector: u8, width: usize) -> usize
+    requires { ⌜ (0 < width) × (width ≤ maxSide) ⌝ }
+    ensures { λ r. ⌜ StepIs sector width r ⌝ }
+{
+    match sector {
+        0 => 1,
+        45 => width - 1,
+        90 => width,
+        _ => width + 1,
+    }
+}
+
+// What stands at inner pixel i afterwards.
+fn suppressed(magnitude: &[f32], gx: &[i16], gy: &[i16], width: usize, i: usize) -> f32
+    requires { ⌜ Inside width (now magnitude) (now gx) (now gy) i ⌝ }
+    ensures { λ r. ⌜ r ≡ keptAt width (now (magnitude .entry)) (now (gx .entry)) (now (gy .entry)) i ⌝ }
+{
+    let step = neighbour_step(sector(gx[i], gy[i]), width);
+    let before = i - step;
+    let after = i + step;
+    let m = magnitude[i];
+    if (magnitude[before] <= m) & (magnitude[after] <= m) {
+        return m;
+    }
+    0.0
+}
+
+fn clear(out: &mut [f32])
+    ensures { λ _. ⌜ now (out .exit) ≡ cleared (length (now (out .entry))) plusZero (now (out .entry)) ⌝ }
+{
+    let mut x = 0;
+    while x < out.len() {
+        out[x] = 0.0;
+        x += 1;
+    }
+}
+
+// An inner row, whose first pixel is `start`: +0, its inner pixels, +0.
+fn suppress_row(magnitude: &[f32], gx: &[i16], gy: &[i16], start: usize, out: &mut [f32])
+    requires { ⌜ InnerRow (now magnitude) (now gx) (now gy) start (length (now out)) ⌝ }
+    ensures { λ _. ⌜
+        now (out .exit)
+        ≡ filled (length (now (out .entry))) (rowAt (length (now (out .entry))) (now (magnitude .entry)) (now (gx .entry)) (now (gy .entry)) start) (now (out .entry))
+        ⌝ }
+{
+    let width = out.len();
+    out[0] = 0.0;
+    let mut x = 1;
+    while x + 1 < width {
+        out[x] = suppressed(magnitude, gx, gy, width, start + x);
+        x += 1;
+    }
+    out[x] = 0.0;
+}
+
+// Row y: outer rows are +0, and so is every row of a narrow picture.
+fn suppress_any(
+    magnitude: &[f32],
+    gx: &[i16],
+    gy: &[i16],
+    size: Size,
+    y: usize,
+    start: usize,
+    out: &mut [f32],
+)
+    requires { ⌜ AnyRow size (now magnitude) (now gx) (now gy) y start (length (now out)) ⌝ }
+    ensures { λ _. ⌜ now (out .exit) ≡ filled (size .width) (λ x. suppressedAt size (now (magnitude .entry)) (now (gx .entry)) (now (gy .entry)) x y) (now (out .entry)) ⌝ }
+{
+    if y == 0 {
+        clear(out);
+        return;
+    }
+    if y + 1 == size.height {
+        clear(out);
+        return;
+    }
+    if size.width < 3 {
+        clear(out);
+        return;
+    }
+    suppress_row(magnitude, gx, gy, start, out);
+}
+
+fn suppress(magnitude: &[f32], gx: &[i16], gy: &[i16], size: Size, out: &mut [f32])
+    requires { ⌜ Pictures size (now magnitude) (now gx) (now gy) × (area size ≤ length (now out)) ⌝ }
+    ensures { λ _. ⌜ now (out .exit) ≡ painted size (suppressedAt size (now (magnitude .entry)) (now (gx .entry)) (now (gy .entry))) (now (out .entry)) ⌝ }
+{
+    let width = size.width;
+    let mut y = 0;
+    let mut start = 0;
+    while y < size.height {
+        let end = start + width;
+        suppress_any(magnitude, gx, gy, size, y, start, &mut out[start..end]);
+        start = end;
+        y += 1;
+    }
+}
+
+// Keeps what is not below its two neighbours; all else is +0 (01.Gradient.18, 01.Gradient.19).
+pub fn non_maximum_suppression(
+    magnitude: &[f32],
+    gx: &[i16],
+    gy: &[i16],
+    size: Size,
+    out: &mut [f32],
+) -> u8
+    ensures { λ r. ⌜
+        (r, now (out .exit))
+        ≡ nonMaximumSuppression size (now (magnitude .entry)) (now (gx .entry)) (now (gy .entry)) (now (out .entry))
+        ⌝ }
+{
+    let refusal = components_refusal(gx, gy, size);
+    if refusal != ACCEPTED {
+        return refusal;
+    }
+    let n = size.width * size.height;
+    if magnitude.len() != n {
+        return REFUSED_INPUT;
+    }
+    if out.len() < n {
+        return REFUSED_ROOM;
+    }
+    suppress(magnitude, gx, gy, size, out);
+    ACCEPTED
+}
