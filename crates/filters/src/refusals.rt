@@ -2,7 +2,6 @@
 use rules::ACCEPTED;
 use rules::Kernel;
 use rules::MAX_KERNEL;
-use rules::MAX_SIDE;
 use rules::MAX_TAPS;
 use rules::REFUSED_COUNT;
 use rules::REFUSED_INPUT;
@@ -11,44 +10,11 @@ use rules::REFUSED_SIDE;
 use rules::REFUSED_WEIGHT;
 use rules::SeparableKernel;
 use rules::Size;
+use rules::table::bad_count;
+use rules::table::bad_weight;
+use rules::table::side_over;
 ghost use mathlib.Core.Path.{_≡_};
-ghost use lib.Ieee.Scale.{finite};
-ghost use Rattle.rules.specs.Refusals.{first, sideRow, countRow, weightRow, kernelRows, separableRows};
-
-// Row 1: a side is over the limit.
-pub(crate) fn side_over(size: Size) -> bool
-    ensures { λ r. ⌜ r ≡ sideRow size .applies ⌝ }
-{
-    (MAX_SIDE < size.width) | (MAX_SIDE < size.height)
-}
-
-// Row 3: a size is zero, even or too large.
-pub(crate) fn bad_count(most: usize, n: usize) -> bool
-    ensures { λ r. ⌜ r ≡ countRow most n .applies ⌝ }
-{
-    (n == 0) | ((n % 2 == 0) | (most < n))
-}
-
-fn is_finite(v: f32) -> bool
-    ensures { λ r. ⌜ r ≡ finite v ⌝ }
-{
-    let top = f32::from_bits(0x7f80_0000);
-    (v < top) & (-top < v)
-}
-
-// Row 4: a weight is infinite or NaN.
-fn bad_weight(weights: &[f32]) -> bool
-    ensures { λ r. ⌜ r ≡ weightRow (now (weights .entry)) .applies ⌝ }
-{
-    let mut k = 0;
-    while k < weights.len() {
-        if !is_finite(weights[k]) {
-            return true;
-        }
-        k += 1;
-    }
-    false
-}
+ghost use Rattle.rules.specs.Refusals.{first, kernelRows, separableRows};
 
 pub(crate) fn of_kernel(
     pixels: &[u8],

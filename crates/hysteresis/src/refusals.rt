@@ -2,8 +2,6 @@
 use rules::ACCEPTED;
 use rules::MARK_FINISHED;
 use rules::MARK_WEAK;
-use rules::MAX_SIDE;
-use rules::MAX_THRESHOLD;
 use rules::REFUSED_BUDGET;
 use rules::REFUSED_INPUT;
 use rules::REFUSED_ORDER;
@@ -14,6 +12,8 @@ use rules::REFUSED_STATE;
 use rules::REFUSED_THRESHOLD;
 use rules::Size;
 use rules::Thresholds;
+use rules::table::bad_threshold;
+use rules::table::side_over;
 ghost use mathlib.Core.Path.{_≡_};
 ghost use Prim.Native.Nat.{_*_, _≤_};
 ghost use lib.Dec.{leb, ltb};
@@ -21,22 +21,7 @@ ghost use lib.ListN.{length, getD};
 ghost use Rattle.rules.specs.Limits.{maxSide};
 ghost use Rattle.rules.specs.Picture.{area, anyBelow};
 ghost use Rattle.rules.specs.Walk.{state, count, unusable};
-ghost use Rattle.rules.specs.Refusals.{first, sideRow, badThreshold, startRows, sliceRows, mapRows};
-
-// Row 1: a side is over the limit.
-fn side_over(size: Size) -> bool
-    ensures { λ r. ⌜ r ≡ sideRow size .applies ⌝ }
-{
-    (MAX_SIDE < size.width) | (MAX_SIDE < size.height)
-}
-
-// Whether a threshold is refused 5. A NaN is not below infinity; an infinity fails one of the other two comparisons.
-fn bad_threshold(t: f32) -> bool
-    ensures { λ r. ⌜ r ≡ badThreshold t ⌝ }
-{
-    let infinity = f32::from_bits(0x7f80_0000);
-    !(t < infinity) | ((t < 0.0) | (MAX_THRESHOLD < t))
-}
+ghost use Rattle.rules.specs.Refusals.{first, startRows, sliceRows, mapRows};
 
 // Whether one of the first p indexes is n or more.
 fn any_beyond(stack: &[u32], p: usize, n: usize) -> bool
