@@ -12,7 +12,7 @@ ghost use Rattle.hysteresis.specs.Fit.{Fit};
 ghost use Rattle.hysteresis.specs.Around.{row};
 
 // What a run of takes leaves.
-pub struct Made {
+pub(crate) struct Made {
     pub takes: usize,
     pub pending: usize,
 }
