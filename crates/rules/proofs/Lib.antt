@@ -13,3 +13,5 @@ pub mod Grid
 pub mod Border
 pub mod Signed
 pub mod Roots
+pub mod Gradients
+pub mod Sorting
