@@ -3,3 +3,4 @@ pub mod Resolving
 pub mod Sampling
 pub mod Magic
 pub mod Rounding
+pub mod Components

@@ -13,5 +13,6 @@ pub mod Grid
 pub mod Border
 pub mod Signed
 pub mod Roots
+pub mod Sizes
 pub mod Gradients
 pub mod Sorting
