@@ -10,12 +10,17 @@ use lib.Dec.{T, leb, leb→le}
 use lib.Ieee.Fits.{and-l, and-r}
 use lib.ListN.{getD}
 use lib.IntN.{ℤ, pos, natAbs, _+ℤ_, _*ℤ_}
+use lib.Signed.{mag}
 use mir.Syntax.{w16}
 use mir.Val.{SFits, toZ, ofZ}
 use mir.ValLaws.{toZ-ofZ, toZ-pos}
 use Rattle.rules.specs.Gradient.{gxTable, gyTable, sumZ}
 use Rattle.rules.proofs.Sizes.{sfits, back, abs-mul, sum-size}
 use Rattle.filters.specs.Sobel.{Weights, component}
+
+-- what is stored as an i16 is read back
+pub stored : (z : ℤ) → mag z < 2 ^ 15 → toZ w16 (ofZ w16 z) ≡ z
+stored z h = toZ-ofZ w16 z (record { sfits = h })
 
 -- term j
 abbrev pub term : List ℤ → List ℕ → ℕ → ℤ

@@ -4,3 +4,5 @@ pub mod Sampling
 pub mod Magic
 pub mod Rounding
 pub mod Components
+pub mod Pixels
+pub mod Writing

@@ -36,10 +36,17 @@ nineInside pixels w i =
     ∷ at (i - 1) ∷ at i ∷ at (i + 1)
     ∷ at (i + w - 1) ∷ at (i + w) ∷ at (i + w + 1) ∷ []
 
--- index i has all nine
-pub record Inside (pixels : List ℕ) (w i : ℕ) : Type 0 where
-  pub before : w + 1 ≤ i
-  pub after : i + w + 1 < length pixels
+-- each index from a to e has all nine
+pub record Inside (pixels : List ℕ) (w a e : ℕ) : Type 0 where
+  pub from : a ≤ e
+  pub above : w + 1 ≤ a
+  pub below : e + w < length pixels
+
+-- how many inner pixels row y has: all but two, or none where the picture has no row above or below it
+pub record Inner (d : Size) (y n : ℕ) : Type 0 where
+  pub columns : 0 < n → n + 2 ≡ d .width
+  pub above : 0 < n → 0 < y
+  pub below : 0 < n → y + 1 < d .height
 
 -- ---- the pictures of the two components, and of Sobel's bytes, by index
 
@@ -51,3 +58,7 @@ gyOf d mode pixels = byPixel d (gradientAt gyTable d mode pixels)
 
 abbrev pub byteOf : Size → BorderMode → List ℕ → ℕ → ℕ
 byteOf d mode pixels = byPixel d (sobelAt d mode pixels)
+
+-- a component of the nine entries about index i
+abbrev pub insideOf : List ℤ → List ℕ → ℕ → ℕ → ℤ
+insideOf table pixels w i = component table (nineInside pixels w i)

@@ -10,13 +10,12 @@ use rules::Size;
 ghost use mathlib.Core.Path.{_≡_};
 ghost use Prim.Native.Nat.{ℕ, _+_, _-_, _*_, _≤_, _<_};
 ghost use lib.ListN.{length};
-ghost use Rattle.rules.specs.Picture.{area, filled};
+ghost use Rattle.rules.specs.Picture.{area};
 ghost use Rattle.rules.specs.Gradient.{gxTable, gyTable, energy};
 ghost use Rattle.rules.specs.Root.{upperEnd, sobelByte};
 ghost use Rattle.rules.specs.Calls.{sobelGradients, sobel};
-ghost use Rattle.filters.specs.Lent.{Whole};
-ghost use Rattle.filters.specs.Window.{Window};
-ghost use Rattle.filters.specs.Sobel.{Weights, component, nineAbout, nineInside, Inside};
+ghost use Rattle.filters.specs.Window.{written, writtenRow, Picture, Run, Window};
+ghost use Rattle.filters.specs.Sobel.{Weights, component, nineAbout, nineInside, Inside, Inner, insideOf, gxOf, gyOf, byteOf};
 
 // The two tables of signed weights, applied without flipping (01.Gradient.1).
 const GX: [i16; 9] = [-1, 0, 1, -2, 0, 2, -1, 0, 1];
@@ -69,7 +68,7 @@ fn nine_about(pixels: &[u8], size: Size, border: BorderMode, x: usize, y: usize)
 
 // Straight from the lent bytes.
 fn nine_inside(pixels: &[u8], width: usize, i: usize) -> [u8; 9]
-    requires { ⌜ Inside (now pixels) width i ⌝ }
+    requires { ⌜ Inside (now pixels) width i (i + 1) ⌝ }
     ensures { λ r. ⌜ r ≡ nineInside (now (pixels .entry)) width i ⌝ }
 {
     let above = i - width;
@@ -85,4 +84,98 @@ fn nine_inside(pixels: &[u8], width: usize, i: usize) -> [u8; 9]
         pixels[below],
         pixels[below + 1],
     ]
+}
+
+// How many inner pixels row y has, whose nine bytes are all in the picture; the row's first and last pixel are not among them.
+fn inner_count(size: Size, y: usize) -> usize
+    requires { ⌜ y < size .height ⌝ }
+    ensures { λ r. ⌜ Inner size y r ⌝ }
+{
+    if y == 0 {
+        return 0;
+    }
+    if y + 1 == size.height {
+        return 0;
+    }
+    if size.width < 3 {
+        return 0;
+    }
+    size.width - 2
+}
+
+// ---- Both components, a run of pixels at a time.
+
+// From index a to index e, through the border.
+fn outer_gradients(
+    pixels: &[u8],
+    size: Size,
+    border: BorderMode,
+    a: usize,
+    e: usize,
+    gx: &mut [i16],
+    gy: &mut [i16],
+)
+    requires { ⌜ Picture size (now pixels) × Run size a e (now gx) × Run size a e (now gy) ⌝ }
+    ensures { λ _. ⌜
+        (now (gx .exit) ≡ written a e (gxOf size border (now (pixels .entry))) (now (gx .entry)))
+        × (now (gy .exit) ≡ written a e (gyOf size border (now (pixels .entry))) (now (gy .entry)))
+        ⌝ }
+{
+    let mut i = a;
+    while i < e {
+        let nine = nine_about(pixels, size, border, i % size.width, i / size.width);
+        gx[i] = gx_of(&nine);
+        gy[i] = gy_of(&nine);
+        i += 1;
+    }
+}
+
+// From index a to index e, where each pixel has its nine bytes in the picture.
+fn inner_gradients(pixels: &[u8], width: usize, a: usize, e: usize, gx: &mut [i16], gy: &mut [i16])
+    requires { ⌜ Inside (now pixels) width a e × (e ≤ length (now gx)) × (e ≤ length (now gy)) ⌝ }
+    ensures { λ _. ⌜
+        (now (gx .exit) ≡ written a e (insideOf gxTable (now (pixels .entry)) width) (now (gx .entry)))
+        × (now (gy .exit) ≡ written a e (insideOf gyTable (now (pixels .entry)) width) (now (gy .entry)))
+        ⌝ }
+{
+    let mut i = a;
+    while i < e {
+        let nine = nine_inside(pixels, width, i);
+        gx[i] = gx_of(&nine);
+        gy[i] = gy_of(&nine);
+        i += 1;
+    }
+}
+
+fn gradient_row(
+    pixels: &[u8],
+    size: Size,
+    border: BorderMode,
+    y: usize,
+    gx: &mut [i16],
+    gy: &mut [i16],
+)
+    requires { ⌜
+        Picture size (now pixels)
+        × (y < size .height)
+        × (area size ≤ length (now gx))
+        × (area size ≤ length (now gy))
+        ⌝ }
+    ensures { λ _. ⌜
+        (now (gx .exit) ≡ writtenRow size y (gxOf size border (now (pixels .entry))) (now (gx .entry)))
+        × (now (gy .exit) ≡ writtenRow size y (gyOf size border (now (pixels .entry))) (now (gy .entry)))
+        ⌝ }
+{
+    let a = y * size.width;
+    let e = a + size.width;
+    let n = inner_count(size, y);
+    if n == 0 {
+        outer_gradients(pixels, size, border, a, e, gx, gy);
+        return;
+    }
+    let first = a + 1;
+    let last = first + n;
+    outer_gradients(pixels, size, border, a, first, gx, gy);
+    inner_gradients(pixels, size.width, first, last, gx, gy);
+    outer_gradients(pixels, size, border, last, e, gx, gy);
 }
