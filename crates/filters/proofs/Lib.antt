@@ -6,3 +6,4 @@ pub mod Rounding
 pub mod Components
 pub mod Pixels
 pub mod Writing
+pub mod Refusing

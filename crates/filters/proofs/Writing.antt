@@ -1,14 +1,17 @@
 -- Buffers written from one index to another: a store at the end, a second run after the first, and a run of all pixels. Assumes nothing.
 use mathlib.Core.Path.{_≡_, refl, sym, ap, _∙_}
 use mathlib.Core.List.{List, [], _∷_, _++_, append-assoc}
-use Prim.Native.Nat.{ℕ, suc, _+_, _-_, _<_, _≤_}
+use Prim.Native.Nat.{ℕ, suc, _+_, _-_, _*_, _<_, _≤_}
 use native.Mathlib.Numerals.{add-one}
+use native.Mathlib.Nat.{add-mul, mul-comm}
 use native.Mathlib.Omega.{arith}
 use lib.ListN.{length, getD, take, drop, set, length-append, length-take, take-append-drop}
 use lib.Seq.{drop-cons, set-at, take-at, drop-at, drop-drop}
-use Rattle.rules.specs.Picture.{tabulate, filled}
+use Rattle.rules.specs.Picture.{tabulate, filled, area}
+use Rattle.rules.specs.declared.Size.{Size}
+use Rattle.rules.proofs.Grid.{row-in}
 use Rattle.rules.proofs.Fill.{length-tabulate, tabulate-cong, tabulate-add}
-use Rattle.filters.specs.Window.{written}
+use Rattle.filters.specs.Window.{written, writtenRow}
 
 module _ {A : Type 0} (a : ℕ) (g : ℕ → A) (o : List A) where
   -- nothing yet
@@ -77,3 +80,23 @@ three-runs f g a n w o l1 l2 l3 c h k q p1 p2 p3 =
     let m = rewrite-as (a + 1) g l1 f (a + 1 + n) l2 (omega arith) p2 q in
     let t = write-on a f o (a + 1) (a + 1 + n) l1 l2 (omega arith) (omega arith) (omega arith) p1 m in
     write-on a f o (a + 1 + n) (a + w) l2 l3 (omega arith) (omega arith) h t p3
+
+-- ---- a picture, row by row
+
+module _ {A : Type 0} (d : Size) (g : ℕ → A) (o : List A) where
+  -- no row yet
+  pub rows-start : o ≡ written 0 (0 * d .width) g o
+  rows-start = let z : 0 * d .width ≡ 0 = omega arith in rw z (write-start 0 g o)
+
+  -- row y after those above it
+  pub rows-more : (y : ℕ) (l r : List A) → y < d .height → area d ≤ length o → l ≡ written 0 (y * d .width) g o → r ≡ writtenRow d y g l → r ≡ written 0 ((y + 1) * d .width) g o
+  rows-more y l r h k p q =
+      let z : (y + 1) * d .width ≡ y * d .width + d .width = omega (arith, add-mul y 1 (d .width)) in
+      let m = row-in y (d .width) (d .height) h in
+      rw z (write-on 0 g o (y * d .width) (y * d .width + d .width) l r (omega arith) (omega arith) (omega arith) p q)
+
+  -- all of them
+  pub rows-all : (y : ℕ) (l : List A) → y ≡ d .height → l ≡ written 0 (y * d .width) g o → l ≡ filled (area d) g o
+  rows-all y l e p =
+      let n : y * d .width ≡ area d = ap (λ (k : ℕ). k * d .width) e ∙ mul-comm (d .height) (d .width) in
+      (rw n at p) ∙ write-all (area d) g o

@@ -1,16 +1,14 @@
 // Sobel's gradient and Sobel's own byte.
+use crate::refusals::picture_refusal;
 use crate::window::window_sample;
 use rules::ACCEPTED;
 use rules::BorderMode;
-use rules::MAX_SIDE;
-use rules::REFUSED_INPUT;
 use rules::REFUSED_ROOM;
-use rules::REFUSED_SIDE;
 use rules::Size;
 ghost use mathlib.Core.Path.{_≡_};
 ghost use Prim.Native.Nat.{ℕ, _+_, _-_, _*_, _≤_, _<_};
 ghost use lib.ListN.{length};
-ghost use Rattle.rules.specs.Picture.{area};
+ghost use Rattle.rules.specs.Picture.{area, filled};
 ghost use Rattle.rules.specs.Gradient.{gxTable, gyTable, energy};
 ghost use Rattle.rules.specs.Root.{upperEnd, sobelByte};
 ghost use Rattle.rules.specs.Calls.{sobelGradients, sobel};
@@ -178,4 +176,45 @@ fn gradient_row(
     outer_gradients(pixels, size, border, a, first, gx, gy);
     inner_gradients(pixels, size.width, first, last, gx, gy);
     outer_gradients(pixels, size, border, last, e, gx, gy);
+}
+
+fn gradient_rows(pixels: &[u8], size: Size, border: BorderMode, gx: &mut [i16], gy: &mut [i16])
+    requires { ⌜ Picture size (now pixels) × (area size ≤ length (now gx)) × (area size ≤ length (now gy)) ⌝ }
+    ensures { λ _. ⌜
+        (now (gx .exit) ≡ filled (area size) (gxOf size border (now (pixels .entry))) (now (gx .entry)))
+        × (now (gy .exit) ≡ filled (area size) (gyOf size border (now (pixels .entry))) (now (gy .entry)))
+        ⌝ }
+{
+    let mut y = 0;
+    while y < size.height {
+        gradient_row(pixels, size, border, y, gx, gy);
+        y += 1;
+    }
+}
+
+// The two components of each pixel, within 1020 of zero and of one parity (01.Gradient.2).
+pub fn sobel_gradients(
+    pixels: &[u8],
+    size: Size,
+    border: BorderMode,
+    gx: &mut [i16],
+    gy: &mut [i16],
+) -> u8
+    ensures { λ r. ⌜
+        (r, (now (gx .exit), now (gy .exit)))
+        ≡ sobelGradients size border (now (pixels .entry)) (now (gx .entry)) (now (gy .entry))
+        ⌝ }
+{
+    let refusal = picture_refusal(pixels, size);
+    if refusal != ACCEPTED {
+        return refusal;
+    }
+    if gx.len() < pixels.len() {
+        return REFUSED_ROOM;
+    }
+    if gy.len() < pixels.len() {
+        return REFUSED_ROOM;
+    }
+    gradient_rows(pixels, size, border, gx, gy);
+    ACCEPTED
 }
