@@ -7,3 +7,4 @@ pub mod Components
 pub mod Pixels
 pub mod Writing
 pub mod Refusing
+pub mod Guessing
