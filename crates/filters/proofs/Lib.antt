@@ -8,3 +8,4 @@ pub mod Pixels
 pub mod Writing
 pub mod Refusing
 pub mod Guessing
+pub mod Energies

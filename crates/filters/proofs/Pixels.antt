@@ -9,13 +9,15 @@ use lib.IntN.{ℤ, pos}
 use Rattle.rules.specs.Limits.{maxSide, maxWindow}
 use Rattle.rules.specs.Picture.{tabulate, area, byPixel}
 use Rattle.rules.specs.Border.{byteSample, under}
-use Rattle.rules.specs.Gradient.{sumZ, gradientTerm, gradientAt}
+use Rattle.rules.specs.Gradient.{gxTable, gyTable, sumZ, gradientTerm, gradientAt, energy}
+use Rattle.rules.specs.Root.{sobelByte}
+use Rattle.rules.specs.Calls.{sobelAt}
 use Rattle.rules.specs.declared.Size.{Size}
 use Rattle.rules.specs.declared.BorderMode.{BorderMode}
 use Rattle.rules.proofs.Grid.{row-in, wide, column-in, row-below, column-of, row-of}
 use Rattle.rules.proofs.Border.{diff, sample-inside}
 use Rattle.filters.specs.Window.{Picture, Window}
-use Rattle.filters.specs.Sobel.{component, aboutAt, nineAbout, nineInside, insideOf, Inner}
+use Rattle.filters.specs.Sobel.{component, aboutAt, nineAbout, nineInside, insideOf, Inner, nineByte, byteInside}
 
 -- the window of the pixel with index i
 pub window-at : (d : Size) (pixels : List ℕ) (side i : ℕ) → Picture d pixels → 0 < side → side ≤ maxWindow → i < area d → Window d pixels side (i % d .width) (i / d .width)
@@ -40,6 +42,11 @@ module _ (table : List ℤ) (d : Size) (mode : BorderMode) (pixels : List ℕ) w
   pub about-is : (x y : ℕ) → component table (nineAbout d mode pixels x y) ≡ gradientAt table d mode pixels x y
   unfolding component nineAbout gradientAt gradientTerm tabulate sumZ
   about-is x y = refl
+
+-- and Sobel's byte of them
+pub byte-about-is : (d : Size) (mode : BorderMode) (pixels : List ℕ) (x y : ℕ) → nineByte (nineAbout d mode pixels x y) ≡ sobelAt d mode pixels x y
+unfolding sobelAt
+byte-about-is d mode pixels x y = ap sobelByte (ap₂ energy (about-is gxTable d mode pixels x y) (about-is gyTable d mode pixels x y))
 
 -- ---- inside, each of the nine is an entry of the picture
 
@@ -86,6 +93,12 @@ inner-is table d mode pixels y n i r h k =
     ap (component table) (inside-is d mode pixels x y i (omega arith) (omega arith) (r .above s) (r .below s) e)
     ∙ about-is table d mode pixels x y
     ∙ sym (ap₂ (gradientAt table d mode pixels) (ap (λ (k : ℕ). k % d .width) e ∙ column-of y l) (ap (λ (k : ℕ). k / d .width) e ∙ row-of y l))
+
+pub inner-byte-is : (d : Size) (mode : BorderMode) (pixels : List ℕ) (y n i : ℕ) → Inner d y n → y * d .width + 1 ≤ i → i < y * d .width + 1 + n
+    → byteInside pixels (d .width) i ≡ byPixel d (sobelAt d mode pixels) i
+unfolding sobelAt
+inner-byte-is d mode pixels y n i r h k =
+    ap sobelByte (ap₂ energy (inner-is gxTable d mode pixels y n i r h k) (inner-is gyTable d mode pixels y n i r h k))
 
 -- ---- rows
 

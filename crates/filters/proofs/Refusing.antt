@@ -8,7 +8,7 @@ use borrow.Author.Tests.{lt-ltb, le-ltb, ne-eqb}
 use lib.ListN.{length}
 use lib.IntN.{ℤ}
 use Rattle.rules.specs.Picture.{area, filled}
-use Rattle.rules.specs.Refusals.{Rule, first, sideRow, inputRow, roomRow, gradientRows}
+use Rattle.rules.specs.Refusals.{Rule, first, sideRow, inputRow, roomRow, gradientRows, plainRows}
 use Rattle.rules.specs.Calls.{answered, sobelGradients}
 use Rattle.rules.specs.declared.Size.{Size}
 use Rattle.rules.specs.declared.BorderMode.{BorderMode}
@@ -68,3 +68,15 @@ module _ (d : Size) (pixels : List ℕ) (r : ℕ) (e : r ≡ first (sideRow d �
             → (0, (x, y)) ≡ sobelGradients d mode pixels gx gy
         unfolding sobelGradients
         gradients-done x y k p q = simp (passed z .0, passed z .1, has-room z gx h, has-room z gy k, p, q)
+
+  -- ---- a filter with one output and no other test
+  module _ (out : List ℕ) where
+    pub plain-early : (done : List ℕ) → (r ≡ 0 → ⊥) → (r, out) ≡ answered (first (plainRows d pixels out)) done out
+    plain-early done n = answer (first (plainRows d pixels out)) r done out (early (roomRow d out ∷ []) n) n
+
+    module _ (z : r ≡ 0) (done : List ℕ) where
+      pub plain-no-room : length out < length pixels → (7, out) ≡ answered (first (plainRows d pixels out)) done out
+      plain-no-room h = simp (passed z .0, passed z .1, no-room z out h)
+
+      pub plain-done : (left : List ℕ) → length pixels ≤ length out → left ≡ done → (0, left) ≡ answered (first (plainRows d pixels out)) done out
+      plain-done left h p = simp (passed z .0, passed z .1, has-room z out h, p)

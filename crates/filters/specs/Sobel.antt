@@ -7,6 +7,7 @@ use lib.IntN.{ℤ, pos, natAbs, _*ℤ_}
 use Rattle.rules.specs.Picture.{area, byPixel, filled, tabulate}
 use Rattle.rules.specs.Border.{byteSample, under}
 use Rattle.rules.specs.Gradient.{gxTable, gyTable, sumZ, gradientAt, energy}
+use Rattle.rules.specs.Root.{sobelByte}
 use Rattle.rules.specs.Calls.{sobelAt}
 use Rattle.rules.specs.declared.Size.{Size}
 use Rattle.rules.specs.declared.BorderMode.{BorderMode}
@@ -62,3 +63,10 @@ byteOf d mode pixels = byPixel d (sobelAt d mode pixels)
 -- a component of the nine entries about index i
 abbrev pub insideOf : List ℤ → List ℕ → ℕ → ℕ → ℤ
 insideOf table pixels w i = component table (nineInside pixels w i)
+
+-- Sobel's byte of nine bytes, and of the nine entries about index i
+abbrev pub nineByte : List ℕ → ℕ
+nineByte nine = sobelByte (energy (component gxTable nine) (component gyTable nine))
+
+abbrev pub byteInside : List ℕ → ℕ → ℕ → ℕ
+byteInside pixels w i = nineByte (nineInside pixels w i)
