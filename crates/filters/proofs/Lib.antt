@@ -9,3 +9,5 @@ pub mod Writing
 pub mod Refusing
 pub mod Guessing
 pub mod Energies
+pub mod Counting
+pub mod Places

@@ -3,3 +3,4 @@ pub mod Lent
 pub mod Byte
 pub mod Window
 pub mod Sobel
+pub mod Median

@@ -9,8 +9,8 @@ ghost use Rattle.rules.specs.Border.{under, byteSample};
 ghost use Rattle.filters.specs.Window.{Window};
 
 // The coordinate under place k of a window of `side` places, centred on `at`.
-fn under(at: usize, side: usize, k: usize) -> i64
-    requires { ⌜ (at < maxSide) × (side ≤ maxWindow) × (k < side) ⌝ }
+pub(crate) fn under(at: usize, side: usize, k: usize) -> i64
+    requires { ⌜ (at < 2 * maxSide) × (side ≤ maxWindow) × (k < side) ⌝ }
     ensures { λ r. ⌜ r ≡ under at side k ⌝ }
 {
     (at + k) as i64 - (side / 2) as i64

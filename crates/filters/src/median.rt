@@ -1,0 +1,136 @@
+// The median of a square window, by counts of the 256 byte values that move along a row: one column out, one in.
+use crate::convolution::place;
+use crate::refusals::picture_refusal;
+use crate::window::under;
+use rules::ACCEPTED;
+use rules::BorderMode;
+use rules::MAX_WINDOW;
+use rules::REFUSED_COUNT;
+use rules::REFUSED_ROOM;
+use rules::Size;
+ghost use mathlib.Core.Path.{_≡_};
+ghost use Prim.Native.Nat.{ℕ, _+_, _-_, _*_, _/_, _≤_, _<_};
+ghost use lib.Dec.{ltb};
+ghost use lib.ListN.{length, getD};
+ghost use Rattle.rules.specs.Limits.{maxSide, maxWindow};
+ghost use Rattle.rules.specs.Picture.{area, bit, filled};
+ghost use Rattle.rules.specs.Median.{defaultWindow};
+ghost use Rattle.rules.specs.Calls.{median};
+ghost use Rattle.filters.specs.Window.{written, writtenRow, Picture};
+ghost use Rattle.filters.specs.Median.{medianOf, readAt, rowPlace, columnPlace, columnAt, belows, countedBelow, putAll, takeAll, Counts, Counted, Middle};
+
+// ---- The window's samples, by the places of its rows and columns.
+
+// The byte in column x and row y, each as `place` gives it: 0 where one of them is nowhere.
+fn read(pixels: &[u8], size: Size, x: usize, y: usize) -> u8
+    requires { ⌜ Picture size (now pixels) ⌝ }
+    ensures { λ r. ⌜ r ≡ readAt (now (pixels .entry)) size x y ⌝ }
+{
+    if size.width <= x {
+        return 0;
+    }
+    if size.height <= y {
+        return 0;
+    }
+    let i = y * size.width + x;
+    pixels[i]
+}
+
+// Where each row of the window about row y is read.
+fn place_rows(size: Size, border: BorderMode, window: usize, y: usize, rows: &mut [usize])
+    requires { ⌜ (y < size .height) × (size .height ≤ maxSide) × (window ≤ maxWindow) × (window ≤ length (now rows)) ⌝ }
+    ensures { λ _. ⌜ now (rows .exit) ≡ filled window (rowPlace size window border y) (now (rows .entry)) ⌝ }
+{
+    let mut j = 0;
+    while j < window {
+        rows[j] = place(under(y, window, j), size.height, border);
+        j += 1;
+    }
+}
+
+// Where column c is read, counted from the left-hand column of the window about column 0.
+fn place_column(size: Size, border: BorderMode, window: usize, c: usize) -> usize
+    requires { ⌜ (0 < size .width) × (size .width ≤ maxSide) × (c < 2 * maxSide) × (0 < window) × (window ≤ maxWindow) ⌝ }
+    ensures { λ r. ⌜ r ≡ columnPlace size window border c ⌝ }
+{
+    place(under(c, window, 0), size.width, border)
+}
+
+// ---- The counts.
+
+fn one_more(n: usize, b: usize, value: usize) -> usize
+    requires { ⌜ n ≤ maxSide ⌝ }
+    ensures { λ r. ⌜ r ≡ n + bit (ltb b value) ⌝ }
+{
+    if b < value { n + 1 } else { n }
+}
+
+fn one_less(n: usize, b: usize, value: usize) -> usize
+    requires { ⌜ bit (ltb b value) ≤ n ⌝ }
+    ensures { λ r. ⌜ r ≡ n - bit (ltb b value) ⌝ }
+{
+    if b < value { n - 1 } else { n }
+}
+
+// A column in. `below` counted bytes were below `value`; what returns are now.
+fn put_column(
+    pixels: &[u8],
+    size: Size,
+    rows: &[usize],
+    x: usize,
+    value: usize,
+    below: usize,
+    counts: &mut [u16],
+) -> usize
+    requires { ⌜
+        Picture size (now pixels)
+        × Counts (now counts) maxSide
+        × (length (now rows) ≤ maxWindow)
+        × (below + maxWindow ≤ maxSide)
+        ⌝ }
+    ensures { λ r. ⌜
+        (now (counts .exit) ≡ putAll (now (counts .entry)) (columnAt (now (pixels .entry)) size (now (rows .entry)) x) (length (now (rows .entry))))
+        × (r ≡ below + belows (columnAt (now (pixels .entry)) size (now (rows .entry)) x) (length (now (rows .entry))) value)
+        ⌝ }
+{
+    let mut n = below;
+    let mut j = 0;
+    while j < rows.len() {
+        let b = read(pixels, size, x, rows[j]) as usize;
+        counts[b] = counts[b] + 1;
+        n = one_more(n, b, value);
+        j += 1;
+    }
+    n
+}
+
+// A column out.
+fn take_column(
+    pixels: &[u8],
+    size: Size,
+    rows: &[usize],
+    x: usize,
+    value: usize,
+    below: usize,
+    counts: &mut [u16],
+) -> usize
+    requires { ⌜
+        Picture size (now pixels)
+        × Counts (now counts) maxSide
+        × Counted (now counts) (columnAt (now pixels) size (now rows) x) (length (now rows)) value below
+        ⌝ }
+    ensures { λ r. ⌜
+        (now (counts .exit) ≡ takeAll (now (counts .entry)) (columnAt (now (pixels .entry)) size (now (rows .entry)) x) (length (now (rows .entry))))
+        × (r ≡ below - belows (columnAt (now (pixels .entry)) size (now (rows .entry)) x) (length (now (rows .entry))) value)
+        ⌝ }
+{
+    let mut n = below;
+    let mut j = 0;
+    while j < rows.len() {
+        let b = read(pixels, size, x, rows[j]) as usize;
+        counts[b] = counts[b] - 1;
+        n = one_less(n, b, value);
+        j += 1;
+    }
+    n
+}
