@@ -5,7 +5,7 @@ use mathlib.Core.Bool.{Bool, true, false, cond}
 use mathlib.Core.Logic.{⊎-elim, _≢_}
 use mathlib.Core.List.{List, [], _∷_, _++_}
 use Prim.Native.Nat.{ℕ, zero, suc, _+_, _-_, _*_, _/_, _%_, _<_, _≤_}
-use native.Mathlib.Nat.{add-suc, add-zero, zero-mul, suc-mul, eq-or-lt-of-le}
+use native.Mathlib.Nat.{add-suc, add-zero, zero-mul, suc-mul, eq-or-lt-of-le, lt-irrefl}
 use native.Mathlib.Numerals.{add-one}
 use native.Mathlib.Omega.{arith}
 use borrow.Author.Tests.{eq-eqb, ne-eqb, ltb-true, ltb-false, eqb-true, eqb-false}
@@ -208,3 +208,28 @@ unfolding sumOf
 below-is l counts zero h = sym (fewer-none l)
 below-is l counts (suc m) h =
     ap₂ (λ x y. x + y) (below-is l counts m (λ v k. h v (omega arith))) (h m (omega arith)) ∙ sym (rw (add-one m) at (fewer-more m l))
+
+-- ---- one value down or up
+
+module _ (counts : List ℕ) (v n item : ℕ) (e : n ≡ countedBelow counts v) where
+  -- more than none are below v
+  pub some-below : item < n → 0 < v
+  unfolding sumOf
+  some-below h = go v e
+    where
+      go : (v : ℕ) → n ≡ countedBelow counts v → 0 < v
+      go zero q = absurd (omega arith)
+      go (suc v) q = omega arith
+
+  pub one-down : 0 < v → n ≡ countedBelow counts (v - 1) + getD counts (v - 1) 0
+  one-down h = let z : v - 1 + 1 ≡ v = omega arith in e ∙ (rw z at (sum-more (λ u. getD counts u 0) (v - 1)))
+
+  pub one-up : n + getD counts v 0 ≡ countedBelow counts (v + 1)
+  one-up = ap (λ (x : ℕ). x + getD counts v 0) e ∙ sym (sum-more (λ u. getD counts u 0) v)
+
+  -- the last value has enough below it and at it
+  pub not-last : v < 256 → item < countedBelow counts 256 → n + getD counts v 0 ≤ item → v + 1 < 256
+  not-last l h k = below (λ (z : v + 1 ≡ 256). lt-irrefl item (omega (arith, h, rw z at one-up)))
+    where
+      below : (v + 1 ≡ 256 → ⊥) → v + 1 < 256
+      below f = omega arith

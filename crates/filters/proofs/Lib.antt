@@ -11,3 +11,4 @@ pub mod Guessing
 pub mod Energies
 pub mod Counting
 pub mod Places
+pub mod Windows

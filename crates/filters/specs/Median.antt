@@ -77,3 +77,35 @@ pub record Counted (counts : List ℕ) (f : ℕ → ℕ) (n value below : ℕ) :
 pub record Middle (counts : List ℕ) (value below : ℕ) : Type 0 where
   pub byte : value < 256
   pub lower : below ≡ countedBelow counts value
+
+-- a value that item `item` of the counted ones, in order, has
+pub record Selected (counts : List ℕ) (item value below : ℕ) : Type 0 where
+  pub middle : Middle counts value below
+  pub from : below ≤ item
+  pub to : item < below + getD counts value 0
+
+-- ---- a row's windows, column by column: k rows and k columns, where k is how many places `rows` has
+
+abbrev pub columnOf : List ℕ → Size → BorderMode → List ℕ → ℕ → ℕ → ℕ
+columnOf pixels d mode rows c = columnAt pixels d rows (columnPlace d (length rows) mode c)
+
+-- how often v stands in the n columns from column x
+abbrev pub inColumns : List ℕ → Size → BorderMode → List ℕ → ℕ → ℕ → ℕ → ℕ
+inColumns pixels d mode rows x n v = sumOf (λ i. equals (columnOf pixels d mode rows (x + i)) (length rows) v) n
+
+-- the counts are those of n columns from column x
+pub record Holds (pixels : List ℕ) (d : Size) (mode : BorderMode) (rows : List ℕ) (x n : ℕ) (counts : List ℕ) : Type 0 where
+  pub count : length counts ≡ 256
+  pub each : (v : ℕ) → getD counts v 0 ≡ inColumns pixels d mode rows x n v
+
+-- a picture with a pixel, and the places of a window's rows
+pub record Rows (d : Size) (pixels rows : List ℕ) : Type 0 where
+  pub picture : Picture d pixels
+  pub wide : 0 < d .width
+  pub some : 0 < length rows
+  pub few : length rows ≤ maxWindow
+
+-- which are those of the window about row y
+pub record About (d : Size) (mode : BorderMode) (y : ℕ) (rows : List ℕ) : Type 0 where
+  pub row : y < d .height
+  pub each : (j : ℕ) → j < length rows → getD rows j 0 ≡ rowPlace d (length rows) mode y j

@@ -17,7 +17,7 @@ ghost use Rattle.rules.specs.Picture.{area, bit, filled};
 ghost use Rattle.rules.specs.Median.{defaultWindow};
 ghost use Rattle.rules.specs.Calls.{median};
 ghost use Rattle.filters.specs.Window.{written, writtenRow, Picture};
-ghost use Rattle.filters.specs.Median.{medianOf, readAt, rowPlace, columnPlace, columnAt, belows, countedBelow, putAll, takeAll, Counts, Counted, Middle};
+ghost use Rattle.filters.specs.Median.{medianOf, readAt, rowPlace, columnPlace, columnAt, belows, countedBelow, putAll, takeAll, Counts, Counted, Middle, Selected, Holds, Rows, About};
 
 // ---- The window's samples, by the places of its rows and columns.
 
@@ -133,4 +133,77 @@ fn take_column(
         j += 1;
     }
     n
+}
+
+// A value, and how many counted bytes are below it.
+struct Found {
+    value: usize,
+    below: usize,
+}
+
+// The value of item `item` of the counted bytes in order, sought from any value on: down, then up.
+fn select(counts: &[u16], item: usize, value: usize, below: usize) -> Found
+    requires { ⌜
+        Counts (now counts) maxSide
+        × Middle (now counts) value below
+        × (item < countedBelow (now counts) 256)
+        × (item ≤ maxSide)
+        ⌝ }
+    ensures { λ r. ⌜ Selected (now (counts .entry)) item (r .value) (r .below) ⌝ }
+{
+    let mut v = value;
+    let mut n = below;
+    while item < n {
+        v -= 1;
+        n -= counts[v] as usize;
+    }
+    while n + (counts[v] as usize) <= item {
+        n += counts[v] as usize;
+        v += 1;
+    }
+    Found { value: v, below: n }
+}
+
+// ---- A row: the counts of its first window, then one column out and one in for each pixel.
+
+fn first_window(pixels: &[u8], size: Size, border: BorderMode, rows: &[usize], counts: &mut [u16])
+    requires { ⌜ Rows size (now pixels) (now rows) × Holds (now pixels) size border (now rows) 0 0 (now counts) ⌝ }
+    ensures { λ _. ⌜ Holds (now (pixels .entry)) size border (now (rows .entry)) 0 (length (now (rows .entry))) (now (counts .exit)) ⌝ }
+{
+    let mut c = 0;
+    while c < rows.len() {
+        let x = place_column(size, border, rows.len(), c);
+        put_column(pixels, size, rows, x, 0, 0, counts);
+        c += 1;
+    }
+}
+
+// From the window about column x to the next one's.
+fn move_window(
+    pixels: &[u8],
+    size: Size,
+    border: BorderMode,
+    rows: &[usize],
+    x: usize,
+    found: Found,
+    counts: &mut [u16],
+) -> usize
+    requires { ⌜
+        Rows size (now pixels) (now rows)
+        × (x < size .width)
+        × Holds (now pixels) size border (now rows) x (length (now rows)) (now counts)
+        × Middle (now counts) (found .value) (found .below)
+        × (found .below ≤ maxWindow * maxWindow)
+        ⌝ }
+    ensures { λ r. ⌜
+        Holds (now (pixels .entry)) size border (now (rows .entry)) (x + 1) (length (now (rows .entry))) (now (counts .exit))
+        × Middle (now (counts .exit)) (found .value) r
+        ⌝ }
+{
+    let value = found.value;
+    let k = rows.len();
+    let left = place_column(size, border, k, x);
+    let right = place_column(size, border, k, x + k);
+    let n = take_column(pixels, size, rows, left, value, found.below, counts);
+    put_column(pixels, size, rows, right, value, n, counts)
 }
