@@ -7,8 +7,9 @@ use native.Mathlib.Omega.{arith}
 use borrow.Author.Tests.{lt-ltb, le-ltb, ne-eqb}
 use lib.ListN.{length}
 use lib.IntN.{ℤ}
+use Rattle.rules.specs.Limits.{maxWindow}
 use Rattle.rules.specs.Picture.{area, filled}
-use Rattle.rules.specs.Refusals.{Rule, first, sideRow, inputRow, roomRow, gradientRows, plainRows}
+use Rattle.rules.specs.Refusals.{Rule, first, sideRow, inputRow, roomRow, countRow, gradientRows, plainRows, medianRows}
 use Rattle.rules.specs.Calls.{answered, sobelGradients}
 use Rattle.rules.specs.declared.Size.{Size}
 use Rattle.rules.specs.declared.BorderMode.{BorderMode}
@@ -80,3 +81,19 @@ module _ (d : Size) (pixels : List ℕ) (r : ℕ) (e : r ≡ first (sideRow d �
 
       pub plain-done : (left : List ℕ) → length pixels ≤ length out → left ≡ done → (0, left) ≡ answered (first (plainRows d pixels out)) done out
       plain-done left h p = simp (passed z .0, passed z .1, has-room z out h, p)
+
+  -- ---- the median
+  module _ (window : ℕ) (out : List ℕ) where
+    pub median-early : (done : List ℕ) → (r ≡ 0 → ⊥) → (r, out) ≡ answered (first (medianRows d window pixels out)) done out
+    median-early done n = answer (first (medianRows d window pixels out)) r done out (early (countRow maxWindow window ∷ roomRow d out ∷ []) n) n
+
+    module _ (z : r ≡ 0) (done : List ℕ) where
+      pub median-bad-window : countRow maxWindow window .applies ≡ true → (3, out) ≡ answered (first (medianRows d window pixels out)) done out
+      median-bad-window h = simp (passed z .0, passed z .1, h)
+
+      module _ (w : countRow maxWindow window .applies ≡ false) where
+        pub median-no-room : length out < length pixels → (7, out) ≡ answered (first (medianRows d window pixels out)) done out
+        median-no-room h = simp (passed z .0, passed z .1, w, no-room z out h)
+
+        pub median-done : (left : List ℕ) → length pixels ≤ length out → left ≡ done → (0, left) ≡ answered (first (medianRows d window pixels out)) done out
+        median-done left h p = simp (passed z .0, passed z .1, w, has-room z out h, p)

@@ -8,17 +8,20 @@ use native.Mathlib.Numerals.{add-one}
 use native.Mathlib.Omega.{arith}
 use borrow.Author.Tests.{lt-ltb}
 use lib.Dec.{ltb, eqb}
-use lib.ListN.{length, getD}
+use lib.ListN.{length, getD, take, drop, replicate, length-replicate}
+use lib.Seq.{take-at as take-front}
 use Rattle.rules.specs.Limits.{maxSide, maxWindow}
-use Rattle.rules.specs.Picture.{bit, tally, tabulate}
+use Rattle.rules.specs.Picture.{tally, tabulate, filled}
 use Rattle.rules.specs.Border.{byteSample, under}
 use Rattle.rules.specs.Median.{occurrences, sorted, windowAt, medianAt}
 use Rattle.rules.specs.declared.Size.{Size}
 use Rattle.rules.specs.declared.BorderMode.{BorderMode}
+use Rattle.rules.proofs.Fill.{length-tabulate, getD-tabulate}
+use Rattle.rules.proofs.Grid.{column-of, row-of}
 use Rattle.rules.proofs.Tallies.{tally-all, tally-eq}
 use Rattle.rules.proofs.Sorting.{fewer, selected}
 use Rattle.rules.proofs.Gradients.{sample-byte}
-use Rattle.filters.specs.Median.{rowPlace, columnPlace, columnAt, columnOf, inColumns, sumOf, equals, belows, countedBelow, putAll, takeAll, Counts, Counted, Middle, Selected, Holds, About}
+use Rattle.filters.specs.Median.{medianOf, rowPlace, columnPlace, columnAt, columnOf, inColumns, sumOf, equals, belows, countedBelow, putAll, takeAll, Counts, Counted, Middle, Selected, Holds, About}
 use Rattle.filters.proofs.Places.{read-byte, read-is}
 use Rattle.filters.proofs.Counting.{sum-cong, sum-more, sum-first, sum-equals, put-at, put-length, put-below, take-at, take-length, take-below, by-columns, occurrences-tabulate, below-is, one-up}
 
@@ -152,7 +155,7 @@ module _ (pixels : List ℕ) (d : Size) (mode : BorderMode) (rows : List ℕ) (y
         ∙ sum-equals samples (length rows * length rows) 256
         ∙ tally-full (λ j. ltb (samples j) 256) (length rows * length rows) (λ j. lt-ltb (samples j) 256 (omega (arith, sample-byte d mode pixels byte (under x (length rows) (j % length rows)) (under y (length rows) (j / length rows)))))
 
-    pub median-is : (value below : ℕ) → Selected counts (length rows * length rows / 2) value below → value ≡ medianAt d (length rows) mode pixels x y
+    median-is : (value below : ℕ) → Selected counts (length rows * length rows / 2) value below → value ≡ medianAt d (length rows) mode pixels x y
     unfolding medianAt windowAt
     median-is value below s =
         let w = tabulate (length rows * length rows) samples in
@@ -162,3 +165,45 @@ module _ (pixels : List ℕ) (d : Size) (mode : BorderMode) (rows : List ℕ) (y
         let a = e value in
         let b = e (value + 1) in
         sym (selected w value (length rows * length rows / 2) (omega (arith, s .from)) (omega (arith, s .to)))
+
+    -- as it stands at the pixel's index
+    pub median-at : (value below : ℕ) → x < d .width → Selected counts (length rows * length rows / 2) value below → value ≡ medianOf d (length rows) mode pixels (y * d .width + x)
+    median-at value below l s = median-is value below s ∙ sym (ap₂ (medianAt d (length rows) mode pixels) (column-of y l) (row-of y l))
+
+-- no column is counted yet
+zeros-at : (n v : ℕ) → _≡_ {A = ℕ} (getD (replicate n 0) v 0) 0
+zeros-at zero v = refl
+zeros-at (suc n) zero = refl
+zeros-at (suc n) (suc v) = zeros-at n v
+
+pub no-columns : (pixels : List ℕ) (d : Size) (mode : BorderMode) (rows : List ℕ) (x : ℕ) → Holds pixels d mode rows x 0 (replicate 256 0)
+unfolding sumOf
+no-columns pixels d mode rows x = record { count = length-replicate {A = ℕ} 256 0; each = λ v. zeros-at 256 v }
+
+pub none-below : (counts : List ℕ) → Middle counts 0 0
+unfolding sumOf
+none-below counts = record { byte = omega arith; lower = refl }
+
+-- ---- the places of a window's rows, lent as a part of what `place_rows` filled
+
+module _ (d : Size) (mode : BorderMode) (window y : ℕ) (l r : List ℕ) (e : r ≡ filled window (rowPlace d window mode y) l) where
+  abbrev part : List ℕ
+  part = take (window - 0) r
+
+  part-is : part ≡ tabulate window (rowPlace d window mode y)
+  part-is =
+      let z : window - 0 ≡ window = omega arith in
+      rw (z, e) (take-front (tabulate window (rowPlace d window mode y)) (drop window l) window (length-tabulate window (rowPlace d window mode y)))
+
+  pub part-count : length part ≡ window
+  part-count = ap length part-is ∙ length-tabulate window (rowPlace d window mode y)
+
+  pub part-about : y < d .height → About d mode y part
+  part-about h =
+      record {
+        row = h;
+        each = λ j k.
+            ap (λ (t : List ℕ). getD t j 0) part-is
+            ∙ getD-tabulate window (rowPlace d window mode y) 0 j (rw part-count at k)
+            ∙ ap (λ (n : ℕ). rowPlace d n mode y j) (sym part-count);
+      }

@@ -1,5 +1,6 @@
 // The median of a square window, by counts of the 256 byte values that move along a row: one column out, one in.
 use crate::convolution::place;
+use crate::refusals::bad_count;
 use crate::refusals::picture_refusal;
 use crate::window::under;
 use rules::ACCEPTED;
@@ -206,4 +207,125 @@ fn move_window(
     let right = place_column(size, border, k, x + k);
     let n = take_column(pixels, size, rows, left, value, found.below, counts);
     put_column(pixels, size, rows, right, value, n, counts)
+}
+
+// The medians of row y, whose window's rows are read at the places `rows`.
+fn slide(pixels: &[u8], size: Size, border: BorderMode, rows: &[usize], y: usize, out: &mut [u8])
+    requires { ⌜
+        Rows size (now pixels) (now rows)
+        × About size border y (now rows)
+        × (area size ≤ length (now out))
+        ⌝ }
+    ensures { λ _. ⌜ now (out .exit) ≡ writtenRow size y (medianOf size (length (now (rows .entry))) border (now (pixels .entry))) (now (out .entry)) ⌝ }
+{
+    let mut counts = [0u16; 256];
+    first_window(pixels, size, border, rows, &mut counts);
+    let item = rows.len() * rows.len() / 2;
+    let a = y * size.width;
+    let mut value = 0;
+    let mut below = 0;
+    let mut x = 0;
+    while x < size.width {
+        let found = select(&counts, item, value, below);
+        value = found.value;
+        out[a + x] = value as u8;
+        below = move_window(pixels, size, border, rows, x, found, &mut counts);
+        x += 1;
+    }
+}
+
+fn median_row(
+    pixels: &[u8],
+    size: Size,
+    border: BorderMode,
+    window: usize,
+    y: usize,
+    out: &mut [u8],
+)
+    requires { ⌜
+        Picture size (now pixels)
+        × (0 < size .width)
+        × (y < size .height)
+        × (0 < window)
+        × (window ≤ maxWindow)
+        × (area size ≤ length (now out))
+        ⌝ }
+    ensures { λ _. ⌜ now (out .exit) ≡ writtenRow size y (medianOf size window border (now (pixels .entry))) (now (out .entry)) ⌝ }
+{
+    let mut rows = [0usize; 15];
+    place_rows(size, border, window, y, &mut rows);
+    slide(pixels, size, border, &rows[0..window], y, out);
+}
+
+fn median_rows(pixels: &[u8], size: Size, border: BorderMode, window: usize, out: &mut [u8])
+    requires { ⌜
+        Picture size (now pixels)
+        × (0 < window)
+        × (window ≤ maxWindow)
+        × (area size ≤ length (now out))
+        ⌝ }
+    ensures { λ _. ⌜ now (out .exit) ≡ filled (area size) (medianOf size window border (now (pixels .entry))) (now (out .entry)) ⌝ }
+{
+    if size.width == 0 {
+        return;
+    }
+    let mut y = 0;
+    while y < size.height {
+        median_row(pixels, size, border, window, y, out);
+        y += 1;
+    }
+}
+
+// The median filter: the side of its window, and how it reads outside the picture.
+pub struct MedianFilter {
+    pub size: usize,
+    pub border: BorderMode,
+}
+
+impl MedianFilter {
+    // A default median has window 3 with Clamp (01.Border.13).
+    pub const DEFAULT_SIZE: usize = 3;
+
+    pub const DEFAULT: MedianFilter = MedianFilter {
+        size: MedianFilter::DEFAULT_SIZE,
+        border: BorderMode::Clamp,
+    };
+
+    pub fn default() -> MedianFilter
+        ensures { λ r. ⌜ (r .size ≡ defaultWindow) × (r .border ≡ BorderMode.Clamp) ⌝ }
+    {
+        MedianFilter::DEFAULT
+    }
+
+    pub fn new(size: usize) -> MedianFilter
+        ensures { λ r. ⌜ (r .size ≡ size) × (r .border ≡ BorderMode.Clamp) ⌝ }
+    {
+        MedianFilter::with_border(size, BorderMode::Clamp)
+    }
+
+    pub fn with_border(size: usize, border: BorderMode) -> MedianFilter
+        ensures { λ r. ⌜ (r .size ≡ size) × (r .border ≡ border) ⌝ }
+    {
+        MedianFilter { size, border }
+    }
+
+    // The median of each pixel's window.
+    pub fn apply(self, pixels: &[u8], size: Size, out: &mut [u8]) -> u8
+        ensures { λ r. ⌜ (r, now (out .exit)) ≡ median size (self .size) (self .border) (now (pixels .entry)) (now (out .entry)) ⌝ }
+    {
+        let refusal = picture_refusal(pixels, size);
+        if refusal != ACCEPTED {
+            return refusal;
+        }
+        let window = self.size;
+        let border = self.border;
+        if bad_count(window, MAX_WINDOW) {
+            return REFUSED_COUNT;
+        }
+        if out.len() < pixels.len() {
+            return REFUSED_ROOM;
+        }
+        median_rows(pixels, size, border, window, out);
+        ACCEPTED
+    }
 }
