@@ -7,7 +7,7 @@ use lib.IntN.{ℤ, pos, natAbs, _*ℤ_}
 use Rattle.rules.specs.Picture.{area, byPixel, filled, tabulate}
 use Rattle.rules.specs.Border.{byteSample, under}
 use Rattle.rules.specs.Gradient.{gxTable, gyTable, sumZ, gradientAt, energy}
-use Rattle.rules.specs.Root.{sobelByte}
+use Rattle.rules.specs.Root.{upperEnd, sobelByte}
 use Rattle.rules.specs.Calls.{sobelAt}
 use Rattle.rules.specs.declared.Size.{Size}
 use Rattle.rules.specs.declared.BorderMode.{BorderMode}
@@ -70,3 +70,8 @@ nineByte nine = sobelByte (energy (component gxTable nine) (component gyTable ni
 
 abbrev pub byteInside : List ℕ → ℕ → ℕ → ℕ
 byteInside pixels w i = nineByte (nineInside pixels w i)
+
+-- the 255 upper ends
+pub record Ends (ends : List ℕ) : Type 0 where
+  pub count : length ends ≡ 255
+  pub each : (n : ℕ) → n < 255 → getD ends n 0 ≡ upperEnd n

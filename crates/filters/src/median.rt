@@ -252,7 +252,7 @@ fn median_row(
         ⌝ }
     ensures { λ _. ⌜ now (out .exit) ≡ writtenRow size y (medianOf size window border (now (pixels .entry))) (now (out .entry)) ⌝ }
 {
-    let mut rows = [0usize; 15];
+    let mut rows = [0usize; MAX_WINDOW];
     place_rows(size, border, window, y, &mut rows);
     slide(pixels, size, border, &rows[0..window], y, out);
 }

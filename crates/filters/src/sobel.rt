@@ -13,7 +13,7 @@ ghost use Rattle.rules.specs.Gradient.{gxTable, gyTable, energy};
 ghost use Rattle.rules.specs.Root.{upperEnd, sobelByte};
 ghost use Rattle.rules.specs.Calls.{sobelGradients, sobel};
 ghost use Rattle.filters.specs.Window.{written, writtenRow, Picture, Run, Window};
-ghost use Rattle.filters.specs.Sobel.{Weights, component, nineAbout, nineInside, Inside, Inner, insideOf, gxOf, gyOf, byteOf, nineByte, byteInside};
+ghost use Rattle.filters.specs.Sobel.{Weights, component, nineAbout, nineInside, Inside, Inner, Ends, insideOf, gxOf, gyOf, byteOf, nineByte, byteInside};
 
 // The two tables of signed weights, applied without flipping (01.Gradient.1).
 const GX: [i16; 9] = [-1, 0, 1, -2, 0, 2, -1, 0, 1];
@@ -220,6 +220,199 @@ pub fn sobel_gradients(
 }
 
 // ---- Sobel's own byte: the root of S to the nearest whole number, by a table.
+
+// The table, to lend: a loop over pixels takes it out once.
+fn upper_ends() -> [u32; 255]
+    ensures { λ r. ⌜ Ends r ⌝ }
+{
+    ENDS
+}
+
+// Half the exponent of a float is nearly its root's; one of Heron's steps, and 2^23 added, leave a whole number in the low bits.
+fn low_bits(z: f32) -> u32 {
+    if z > 0.0 {
+        return f32::to_bits(z);
+    }
+    0
+}
+
+fn half_exponent(f: f32) -> f32 {
+    f32::from_bits(low_bits(f) / 2 % 1073741824 + 532369198)
+}
+
+// Where to begin: near the byte of s, for speed alone. Nothing is promised of it but that the table has it.
+fn guess(s: u32) -> usize
+    requires { ⌜ s ≤ upperEnd 254 ⌝ }
+    ensures { λ r. ⌜ r < 255 ⌝ }
+{
+    let f = (s as u16) as f32;
+    let y = half_exponent(f);
+    let n = low_bits((y + f / y) * 0.5 + 8388608.0) % 256;
+    if n < 255 { n as usize } else { 254 }
+}
+
+// The guess mended against the table: up while its end is below s, then down while the end before it is not.
+fn byte_by(ends: &[u32], s: u32) -> u8
+    requires { ⌜ Ends (now ends) ⌝ }
+    ensures { λ r. ⌜ r ≡ sobelByte s ⌝ }
+{
+    if ends[254] < s {
+        return 255;
+    }
+    let mut n = guess(s);
+    while ends[n] < s {
+        n += 1;
+    }
+    while 0 < n {
+        if ends[n - 1] < s {
+            return n as u8;
+        }
+        n -= 1;
+    }
+    0
+}
+
+// The byte of any S.
+pub fn sobel_byte(s: u32) -> u8
+    ensures { λ r. ⌜ r ≡ sobelByte s ⌝ }
+{
+    let ends = upper_ends();
+    byte_by(&ends, s)
+}
+
+// ---- Sobel's bytes, a run of pixels at a time.
+
+// S of the nine bytes about a pixel: at most 2,080,800 (01.Gradient.3).
+fn energy_of(nine: &[u8]) -> u32
+    requires { ⌜ length (now nine) ≡ 9 ⌝ }
+    ensures { λ r. ⌜ r ≡ energy (component gxTable (now (nine .entry))) (component gyTable (now (nine .entry))) ⌝ }
+{
+    let x = gx_of(nine) as i32;
+    let y = gy_of(nine) as i32;
+    (x * x + y * y) as u32
+}
+
+fn byte_of(nine: &[u8], ends: &[u32]) -> u8
+    requires { ⌜ (length (now nine) ≡ 9) × Ends (now ends) ⌝ }
+    ensures { λ r. ⌜ r ≡ nineByte (now (nine .entry)) ⌝ }
+{
+    byte_by(ends, energy_of(nine))
+}
+
+// From index a to index e, through the border.
+fn outer_bytes(
+    pixels: &[u8],
+    size: Size,
+    border: BorderMode,
+    ends: &[u32],
+    a: usize,
+    e: usize,
+    out: &mut [u8],
+)
+    requires { ⌜ Picture size (now pixels) × Run size a e (now out) × Ends (now ends) ⌝ }
+    ensures { λ _. ⌜ now (out .exit) ≡ written a e (byteOf size border (now (pixels .entry))) (now (out .entry)) ⌝ }
+{
+    let mut i = a;
+    while i < e {
+        let nine = nine_about(pixels, size, border, i % size.width, i / size.width);
+        out[i] = byte_of(&nine, ends);
+        i += 1;
+    }
+}
+
+// From index a to index e, where each pixel has its nine bytes in the picture.
+fn inner_bytes(pixels: &[u8], width: usize, ends: &[u32], a: usize, e: usize, out: &mut [u8])
+    requires { ⌜ Inside (now pixels) width a e × (e ≤ length (now out)) × Ends (now ends) ⌝ }
+    ensures { λ _. ⌜ now (out .exit) ≡ written a e (byteInside (now (pixels .entry)) width) (now (out .entry)) ⌝ }
+{
+    let mut i = a;
+    while i < e {
+        let nine = nine_inside(pixels, width, i);
+        out[i] = byte_of(&nine, ends);
+        i += 1;
+    }
+}
+
+fn byte_row(pixels: &[u8], size: Size, border: BorderMode, ends: &[u32], y: usize, out: &mut [u8])
+    requires { ⌜
+        Picture size (now pixels)
+        × (y < size .height)
+        × (area size ≤ length (now out))
+        × Ends (now ends)
+        ⌝ }
+    ensures { λ _. ⌜ now (out .exit) ≡ writtenRow size y (byteOf size border (now (pixels .entry))) (now (out .entry)) ⌝ }
+{
+    let a = y * size.width;
+    let e = a + size.width;
+    let n = inner_count(size, y);
+    if n == 0 {
+        outer_bytes(pixels, size, border, ends, a, e, out);
+        return;
+    }
+    let first = a + 1;
+    let last = first + n;
+    outer_bytes(pixels, size, border, ends, a, first, out);
+    inner_bytes(pixels, size.width, ends, first, last, out);
+    outer_bytes(pixels, size, border, ends, last, e, out);
+}
+
+fn byte_rows(pixels: &[u8], size: Size, border: BorderMode, ends: &[u32], out: &mut [u8])
+    requires { ⌜ Picture size (now pixels) × (area size ≤ length (now out)) × Ends (now ends) ⌝ }
+    ensures { λ _. ⌜ now (out .exit) ≡ filled (area size) (byteOf size border (now (pixels .entry))) (now (out .entry)) ⌝ }
+{
+    let mut y = 0;
+    while y < size.height {
+        byte_row(pixels, size, border, ends, y, out);
+        y += 1;
+    }
+}
+
+// Sobel's filter: how it reads outside the picture.
+pub struct SobelFilter {
+    pub border: BorderMode,
+}
+
+impl SobelFilter {
+    // A default Sobel has Clamp (01.Border.13).
+    pub const DEFAULT: SobelFilter = SobelFilter {
+        border: BorderMode::Clamp,
+    };
+
+    pub fn new() -> SobelFilter
+        ensures { λ r. ⌜ r .border ≡ BorderMode.Clamp ⌝ }
+    {
+        SobelFilter::DEFAULT
+    }
+
+    pub fn default() -> SobelFilter
+        ensures { λ r. ⌜ r .border ≡ BorderMode.Clamp ⌝ }
+    {
+        SobelFilter::new()
+    }
+
+    pub fn with_border(border: BorderMode) -> SobelFilter
+        ensures { λ r. ⌜ r .border ≡ border ⌝ }
+    {
+        SobelFilter { border }
+    }
+
+    // Sobel's byte of each pixel.
+    pub fn apply(self, pixels: &[u8], size: Size, out: &mut [u8]) -> u8
+        ensures { λ r. ⌜ (r, now (out .exit)) ≡ sobel size (self .border) (now (pixels .entry)) (now (out .entry)) ⌝ }
+    {
+        let refusal = picture_refusal(pixels, size);
+        if refusal != ACCEPTED {
+            return refusal;
+        }
+        if out.len() < pixels.len() {
+            return REFUSED_ROOM;
+        }
+        let border = self.border;
+        let ends = upper_ends();
+        byte_rows(pixels, size, border, &ends, out);
+        ACCEPTED
+    }
+}
 
 // The 255 upper ends n² + n: S gets byte n from above the end before it up to its own (01.Gradient.5, 01.Gradient.6).
 const ENDS: [u32; 255] = [
@@ -479,173 +672,3 @@ const ENDS: [u32; 255] = [
     64262,
     64770,
 ];
-
-fn upper_end(n: usize) -> u32
-    requires { ⌜ n < 255 ⌝ }
-    ensures { λ r. ⌜ r ≡ upperEnd n ⌝ }
-{
-    ENDS[n]
-}
-
-// Half the exponent of a float is nearly its root's; one of Heron's steps, and 2^23 added, leave a whole number in the low bits.
-fn low_bits(z: f32) -> u32 {
-    if z > 0.0 {
-        return f32::to_bits(z);
-    }
-    0
-}
-
-fn half_exponent(f: f32) -> f32 {
-    f32::from_bits(low_bits(f) / 2 % 1073741824 + 532369198)
-}
-
-// Where to begin: near the byte of s, for speed alone. Nothing is promised of it but that the table has it.
-fn guess(s: u32) -> usize
-    requires { ⌜ s ≤ upperEnd 254 ⌝ }
-    ensures { λ r. ⌜ r < 255 ⌝ }
-{
-    let f = (s as u16) as f32;
-    let y = half_exponent(f);
-    let n = low_bits((y + f / y) * 0.5 + 8388608.0) % 256;
-    if n < 255 { n as usize } else { 254 }
-}
-
-// The byte of any S: the guess mended against the table.
-pub fn sobel_byte(s: u32) -> u8
-    ensures { λ r. ⌜ r ≡ sobelByte s ⌝ }
-{
-    if upper_end(254) < s {
-        return 255;
-    }
-    let mut n = guess(s);
-    while upper_end(n) < s {
-        n += 1;
-    }
-    while 0 < n {
-        if upper_end(n - 1) < s {
-            return n as u8;
-        }
-        n -= 1;
-    }
-    0
-}
-
-// ---- Sobel's bytes, a run of pixels at a time.
-
-// S of the nine bytes about a pixel: at most 2,080,800 (01.Gradient.3).
-fn energy_of(nine: &[u8]) -> u32
-    requires { ⌜ length (now nine) ≡ 9 ⌝ }
-    ensures { λ r. ⌜ r ≡ energy (component gxTable (now (nine .entry))) (component gyTable (now (nine .entry))) ⌝ }
-{
-    let x = gx_of(nine) as i32;
-    let y = gy_of(nine) as i32;
-    (x * x + y * y) as u32
-}
-
-fn byte_of(nine: &[u8]) -> u8
-    requires { ⌜ length (now nine) ≡ 9 ⌝ }
-    ensures { λ r. ⌜ r ≡ nineByte (now (nine .entry)) ⌝ }
-{
-    sobel_byte(energy_of(nine))
-}
-
-// From index a to index e, through the border.
-fn outer_bytes(pixels: &[u8], size: Size, border: BorderMode, a: usize, e: usize, out: &mut [u8])
-    requires { ⌜ Picture size (now pixels) × Run size a e (now out) ⌝ }
-    ensures { λ _. ⌜ now (out .exit) ≡ written a e (byteOf size border (now (pixels .entry))) (now (out .entry)) ⌝ }
-{
-    let mut i = a;
-    while i < e {
-        let nine = nine_about(pixels, size, border, i % size.width, i / size.width);
-        out[i] = byte_of(&nine);
-        i += 1;
-    }
-}
-
-// From index a to index e, where each pixel has its nine bytes in the picture.
-fn inner_bytes(pixels: &[u8], width: usize, a: usize, e: usize, out: &mut [u8])
-    requires { ⌜ Inside (now pixels) width a e × (e ≤ length (now out)) ⌝ }
-    ensures { λ _. ⌜ now (out .exit) ≡ written a e (byteInside (now (pixels .entry)) width) (now (out .entry)) ⌝ }
-{
-    let mut i = a;
-    while i < e {
-        let nine = nine_inside(pixels, width, i);
-        out[i] = byte_of(&nine);
-        i += 1;
-    }
-}
-
-fn byte_row(pixels: &[u8], size: Size, border: BorderMode, y: usize, out: &mut [u8])
-    requires { ⌜ Picture size (now pixels) × (y < size .height) × (area size ≤ length (now out)) ⌝ }
-    ensures { λ _. ⌜ now (out .exit) ≡ writtenRow size y (byteOf size border (now (pixels .entry))) (now (out .entry)) ⌝ }
-{
-    let a = y * size.width;
-    let e = a + size.width;
-    let n = inner_count(size, y);
-    if n == 0 {
-        outer_bytes(pixels, size, border, a, e, out);
-        return;
-    }
-    let first = a + 1;
-    let last = first + n;
-    outer_bytes(pixels, size, border, a, first, out);
-    inner_bytes(pixels, size.width, first, last, out);
-    outer_bytes(pixels, size, border, last, e, out);
-}
-
-fn byte_rows(pixels: &[u8], size: Size, border: BorderMode, out: &mut [u8])
-    requires { ⌜ Picture size (now pixels) × (area size ≤ length (now out)) ⌝ }
-    ensures { λ _. ⌜ now (out .exit) ≡ filled (area size) (byteOf size border (now (pixels .entry))) (now (out .entry)) ⌝ }
-{
-    let mut y = 0;
-    while y < size.height {
-        byte_row(pixels, size, border, y, out);
-        y += 1;
-    }
-}
-
-// Sobel's filter: how it reads outside the picture.
-pub struct SobelFilter {
-    pub border: BorderMode,
-}
-
-impl SobelFilter {
-    // A default Sobel has Clamp (01.Border.13).
-    pub const DEFAULT: SobelFilter = SobelFilter {
-        border: BorderMode::Clamp,
-    };
-
-    pub fn new() -> SobelFilter
-        ensures { λ r. ⌜ r .border ≡ BorderMode.Clamp ⌝ }
-    {
-        SobelFilter::DEFAULT
-    }
-
-    pub fn default() -> SobelFilter
-        ensures { λ r. ⌜ r .border ≡ BorderMode.Clamp ⌝ }
-    {
-        SobelFilter::new()
-    }
-
-    pub fn with_border(border: BorderMode) -> SobelFilter
-        ensures { λ r. ⌜ r .border ≡ border ⌝ }
-    {
-        SobelFilter { border }
-    }
-
-    // Sobel's byte of each pixel.
-    pub fn apply(self, pixels: &[u8], size: Size, out: &mut [u8]) -> u8
-        ensures { λ r. ⌜ (r, now (out .exit)) ≡ sobel size (self .border) (now (pixels .entry)) (now (out .entry)) ⌝ }
-    {
-        let refusal = picture_refusal(pixels, size);
-        if refusal != ACCEPTED {
-            return refusal;
-        }
-        if out.len() < pixels.len() {
-            return REFUSED_ROOM;
-        }
-        let border = self.border;
-        byte_rows(pixels, size, border, out);
-        ACCEPTED
-    }
-}

@@ -8,11 +8,11 @@ use Rattle.filters.proofs.sobel.byte_of.Tie as tie
 energy-of-requires : tie.Need-energy-of-requires
 energy-of-requires c κs = search needs
 
-sobel-byte-requires : tie.Need-sobel-byte-requires
-sobel-byte-requires c κs = search needs
+byte-by-requires : tie.Need-byte-by-requires
+byte-by-requires c κs = search needs
 
 returns : tie.Need-returns
-returns c = c .sobel-byte .ensures ∙ ap sobelByte (c .before .energy-of .ensures)
+returns c = c .byte-by .ensures ∙ ap sobelByte (c .before .energy-of .ensures)
 
 pub byte-of-spec : {M : Type 1} → statement M
-byte-of-spec = tie.close (tie.spec energy-of-requires sobel-byte-requires returns)
+byte-of-spec = tie.close (tie.spec energy-of-requires byte-by-requires returns)
