@@ -1,5 +1,5 @@
 -- A component of nine bytes, as the code sums it at 16 bits. Assumes nothing.
-use mathlib.Core.Path.{_≡_, refl, sym, ap, _∙_}
+use mathlib.Core.Path.{_≡_, refl}
 use mathlib.Core.Bool.{Bool, true, _&&_}
 use mathlib.Core.List.{List, [], _∷_}
 use Prim.Native.Nat.{ℕ, zero, suc, _+_, _*_, _^_, _<_, _≤_}
@@ -16,7 +16,7 @@ use mir.Val.{SFits, toZ, ofZ}
 use mir.ValLaws.{toZ-ofZ, toZ-pos}
 use Rattle.rules.specs.Gradient.{gxTable, gyTable, sumZ}
 use Rattle.rules.proofs.Sizes.{sfits, back, abs-mul, sum-size}
-use Rattle.filters.specs.Sobel.{Weights, component}
+use Rattle.filters.specs.Sobel.{Weights}
 
 -- what is stored as an i16 is read back
 pub stored : (z : ℤ) → mag z < 2 ^ 15 → toZ w16 (ofZ w16 z) ≡ z

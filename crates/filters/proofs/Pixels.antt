@@ -17,7 +17,7 @@ use Rattle.rules.specs.declared.BorderMode.{BorderMode}
 use Rattle.rules.proofs.Grid.{row-in, wide, column-in, row-below, column-of, row-of}
 use Rattle.rules.proofs.Border.{diff, sample-inside}
 use Rattle.filters.specs.Window.{Picture, Window}
-use Rattle.filters.specs.Sobel.{component, aboutAt, nineAbout, nineInside, insideOf, Inner, nineByte, byteInside}
+use Rattle.filters.specs.Sobel.{component, nineAbout, nineInside, insideOf, Inner, nineByte, byteInside}
 
 -- the window of the pixel with index i
 pub window-at : (d : Size) (pixels : List ℕ) (side i : ℕ) → Picture d pixels → 0 < side → side ≤ maxWindow → i < area d → Window d pixels side (i % d .width) (i / d .width)

@@ -4,7 +4,6 @@ use mathlib.Core.Bool.{Bool, true}
 use mathlib.Core.List.{List}
 use Prim.Native.Nat.{ℕ, zero, suc, _+_, _-_, _*_, _/_, _%_, _<_, _≤_}
 use native.Mathlib.Nat.{mul-le-mul, suc-mul}
-use native.Mathlib.Numerals.{add-one}
 use native.Mathlib.Omega.{arith}
 use borrow.Author.Tests.{lt-ltb}
 use lib.Dec.{ltb, eqb}
@@ -13,7 +12,7 @@ use lib.Seq.{take-at as take-front}
 use Rattle.rules.specs.Limits.{maxSide, maxWindow}
 use Rattle.rules.specs.Picture.{tally, tabulate, filled}
 use Rattle.rules.specs.Border.{byteSample, under}
-use Rattle.rules.specs.Median.{occurrences, sorted, windowAt, medianAt}
+use Rattle.rules.specs.Median.{windowAt, medianAt}
 use Rattle.rules.specs.declared.Size.{Size}
 use Rattle.rules.specs.declared.BorderMode.{BorderMode}
 use Rattle.rules.proofs.Fill.{length-tabulate, getD-tabulate}

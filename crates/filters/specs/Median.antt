@@ -1,13 +1,13 @@
 -- The median's private functions: counts of 256 byte values, moved by columns of the window, and the value that they select.
-use Prim.Native.Nat.{ℕ, zero, suc, _+_, _-_, _*_, _/_, _<_, _≤_}
+use Prim.Native.Nat.{ℕ, zero, suc, _+_, _-_, _*_, _<_, _≤_}
 use mathlib.Core.Path.{_≡_}
 use mathlib.Core.Bool.{cond}
 use mathlib.Core.List.{List}
 use lib.Dec.{ltb, eqb}
 use lib.ListN.{length, getD, set}
-use Rattle.rules.specs.Limits.{maxSide, maxWindow}
+use Rattle.rules.specs.Limits.{maxWindow}
 use Rattle.rules.specs.Picture.{tally, byPixel}
-use Rattle.rules.specs.Border.{resolved, byteSample, under}
+use Rattle.rules.specs.Border.{resolved, under}
 use Rattle.rules.specs.Median.{medianAt}
 use Rattle.rules.specs.declared.Size.{Size}
 use Rattle.rules.specs.declared.BorderMode.{BorderMode}

@@ -1,17 +1,16 @@
 -- Sobel's private functions: the nine bytes about a pixel, a component of them, and what the loops over pixels require.
-use Prim.Native.Nat.{ℕ, zero, suc, _+_, _-_, _*_, _/_, _%_, _<_, _≤_}
+use Prim.Native.Nat.{ℕ, _+_, _-_, _/_, _%_, _<_, _≤_}
 use mathlib.Core.Path.{_≡_}
 use mathlib.Core.List.{List, [], _∷_}
 use lib.ListN.{length, getD}
 use lib.IntN.{ℤ, pos, natAbs, _*ℤ_}
-use Rattle.rules.specs.Picture.{area, byPixel, filled, tabulate}
+use Rattle.rules.specs.Picture.{byPixel, tabulate}
 use Rattle.rules.specs.Border.{byteSample, under}
 use Rattle.rules.specs.Gradient.{gxTable, gyTable, sumZ, gradientAt, energy}
 use Rattle.rules.specs.Root.{upperEnd, sobelByte}
 use Rattle.rules.specs.Calls.{sobelAt}
 use Rattle.rules.specs.declared.Size.{Size}
 use Rattle.rules.specs.declared.BorderMode.{BorderMode}
-use Rattle.filters.specs.Lent.{Whole}
 
 -- a table of nine small weights
 pub record Weights (table : List ℤ) : Type 0 where

@@ -7,8 +7,8 @@ use native.Mathlib.Nat.{mul-le-mul}
 use native.Mathlib.Omega.{arith}
 use lib.Dec.{ltb}
 use lib.ListN.{getD}
-use lib.IntN.{ℤ, pos, negsuc, negℤ, natAbs, subℕ, _+ℤ_, _*ℤ_, +ℤ-assoc}
-use borrow.Author.Tests.{ltb-true, ltb-false, le-ltb}
+use lib.IntN.{ℤ, pos, negsuc, negℤ, natAbs, subℕ, _+ℤ_, _*ℤ_}
+use borrow.Author.Tests.{ltb-true, ltb-false}
 use Rattle.rules.specs.Border.{resolved, entryAt, sampleAt, byteSample, under}
 use Rattle.rules.specs.Gradient.{gxTable, gyTable, sumZ, gradientTerm, gradientAt, energy}
 use Rattle.rules.specs.declared.Size.{Size}

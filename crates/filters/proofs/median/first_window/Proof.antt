@@ -9,10 +9,6 @@ use Rattle.filters.specs.Median.{columnPlace, Holds}
 use Rattle.filters.proofs.Windows.{counts-of, put-holds}
 use Rattle.filters.proofs.median.first_window.Statement.{statement}
 use Rattle.filters.proofs.median.first_window.Tie as tie
-use Rattle.filters.proofs.median.first_window.Reads as reads
-use Rattle.filters.proofs.median.first_window.Lts as lts
-use Rattle.filters.proofs.median.place_column.Reads as place-column-reads
-use Rattle.filters.proofs.median.put_column.Reads as put-column-reads
 
 abbrev Inv-loop : tie.InvT-loop
 Inv-loop pixels size border rows counts₀ c₀ counts c = (c ≤ length rows) × (length counts ≡ length counts₀) × Holds pixels size border rows 0 c counts

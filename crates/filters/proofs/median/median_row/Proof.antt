@@ -1,7 +1,6 @@
 -- `median_row` meets its contract: the places of its window's rows, then the row. Assumes nothing.
 use borrow.Author.Needs.{needs}
 use native.Mathlib.Omega.{arith}
-use mathlib.Core.Path.{_≡_}
 use Rattle.filters.proofs.Windows.{part-count, part-about}
 use Rattle.filters.proofs.median.median_row.Statement.{statement}
 use Rattle.filters.proofs.median.median_row.Tie as tie

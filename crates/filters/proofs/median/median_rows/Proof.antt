@@ -13,9 +13,6 @@ use Rattle.filters.specs.Median.{medianOf}
 use Rattle.filters.proofs.Writing.{rows-start, rows-more, rows-all}
 use Rattle.filters.proofs.median.median_rows.Statement.{statement}
 use Rattle.filters.proofs.median.median_rows.Tie as tie
-use Rattle.filters.proofs.median.median_rows.Reads as reads
-use Rattle.filters.proofs.median.median_rows.Lts as lts
-use Rattle.filters.proofs.median.median_row.Reads as median-row-reads
 
 abbrev Inv-loop : tie.InvT-loop
 Inv-loop pixels size border window out₀ y₀ out y =

@@ -1,8 +1,7 @@
 -- `move_window` meets its contract: one column out, one in, and how many stay below the value. Assumes nothing.
 use borrow.Author.Needs.{needs}
 use native.Mathlib.Omega.{arith}
-use mathlib.Core.Path.{_≡_}
-use Prim.Native.Nat.{ℕ, _<_, _≤_}
+use Prim.Native.Nat.{ℕ, _<_}
 use denote.Ref.{now}
 use lib.ListN.{getD}
 use Rattle.filters.proofs.Windows.{counts-of, left-counted, less-counts, moved, moved-below}

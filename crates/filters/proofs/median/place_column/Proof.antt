@@ -1,6 +1,5 @@
 -- `place_column` meets its contract: the place of the coordinate under the window's left-hand column. Assumes nothing.
 use borrow.Author.Needs.{needs}
-use mathlib.Core.Path.{_∙_}
 use mir.Syntax.{w64}
 use mir.ValLaws.{toZ-ofZ}
 use Rattle.filters.proofs.median.place_column.Statement.{statement}

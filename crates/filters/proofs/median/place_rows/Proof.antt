@@ -1,10 +1,10 @@
 -- `place_rows` meets its contract, row by row of the window. Assumes nothing.
 use borrow.Author.Needs.{needs, zero≤}
 use native.Mathlib.Omega.{arith}
-use mathlib.Core.Path.{_≡_, refl, ap, _∙_}
-use Prim.Native.Nat.{ℕ, _≤_, _+_, _-_, _*_, _<_}
+use mathlib.Core.Path.{_≡_, refl}
+use Prim.Native.Nat.{_≤_, _-_, _<_}
 use denote.Ref.{now}
-use lib.ListN.{length, length-set, getD}
+use lib.ListN.{length, length-set}
 use mir.Syntax.{w64}
 use mir.ValLaws.{toZ-ofZ}
 use Rattle.rules.specs.Picture.{filled}
@@ -12,10 +12,6 @@ use Rattle.rules.proofs.Fill.{fill-start, fill-more}
 use Rattle.filters.specs.Median.{rowPlace}
 use Rattle.filters.proofs.median.place_rows.Statement.{statement}
 use Rattle.filters.proofs.median.place_rows.Tie as tie
-use Rattle.filters.proofs.median.place_rows.Reads as reads
-use Rattle.filters.proofs.median.place_rows.Lts as lts
-use Rattle.filters.proofs.convolution.place.Reads as place-reads
-use Rattle.filters.proofs.window.under.Reads as under-reads
 
 abbrev Inv-loop : tie.InvT-loop
 Inv-loop size border window y rows₀ j₀ rows j = (j ≤ window) × (length rows ≡ length rows₀) × (rows ≡ filled j (rowPlace size window border y) rows₀)

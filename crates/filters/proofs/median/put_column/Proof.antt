@@ -1,8 +1,8 @@
 -- `put_column` meets its contract, sample by sample. Assumes nothing.
 use borrow.Author.Needs.{needs, zero≤}
 use native.Mathlib.Omega.{arith}
-use mathlib.Core.Path.{_≡_, refl, ap, _∙_}
-use Prim.Native.Nat.{ℕ, _≤_, _+_, _-_, _*_, _<_}
+use mathlib.Core.Path.{_≡_, refl, ap}
+use Prim.Native.Nat.{ℕ, _≤_, _+_, _-_, _<_}
 use denote.Ref.{now}
 use lib.ListN.{length, length-set, getD}
 use mathlib.Core.List.{List}
@@ -15,10 +15,6 @@ use Rattle.filters.proofs.Counting.{put-more, put-small, belows-more}
 use Rattle.rules.proofs.Tallies.{tally-all}
 use Rattle.filters.proofs.median.put_column.Statement.{statement}
 use Rattle.filters.proofs.median.put_column.Tie as tie
-use Rattle.filters.proofs.median.put_column.Reads as reads
-use Rattle.filters.proofs.median.put_column.Lts as lts
-use Rattle.filters.proofs.median.one_more.Reads as one-more-reads
-use Rattle.filters.proofs.median.read.Reads as read-reads
 
 abbrev Inv-loop : tie.InvT-loop
 Inv-loop pixels size rows x value below counts₀ n₀ j₀ counts n j =

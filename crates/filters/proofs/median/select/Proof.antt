@@ -2,15 +2,13 @@
 use borrow.Author.Needs.{needs}
 use native.Mathlib.Omega.{arith}
 use mathlib.Core.Path.{_≡_}
-use Prim.Native.Nat.{ℕ, _+_, _-_, _<_, _≤_}
+use Prim.Native.Nat.{_+_, _-_, _<_, _≤_}
 use denote.Ref.{now}
 use lib.ListN.{getD}
 use Rattle.filters.specs.Median.{countedBelow}
 use Rattle.filters.proofs.Counting.{some-below, one-down, one-up, not-last}
 use Rattle.filters.proofs.median.select.Statement.{statement}
 use Rattle.filters.proofs.median.select.Tie as tie
-use Rattle.filters.proofs.median.select.Reads as reads
-use Rattle.filters.proofs.median.select.Lts as lts
 
 abbrev Inv-loop : tie.InvT-loop
 Inv-loop counts item value below v₀ n₀ v n = (v < 256) × (n ≡ countedBelow counts v)

@@ -2,24 +2,18 @@
 use borrow.Author.Needs.{needs, zero≤}
 use native.Mathlib.Omega.{arith}
 use native.Mathlib.Nat.{mul-le-mul}
-use mathlib.Core.Path.{_≡_, refl, sym, ap, _∙_}
-use Prim.Native.Nat.{ℕ, _+_, _-_, _*_, _/_, _%_, _<_, _≤_}
+use mathlib.Core.Path.{_≡_, refl}
+use Prim.Native.Nat.{ℕ, _+_, _-_, _*_, _<_, _≤_}
 use denote.Ref.{now}
 use lib.ListN.{length, length-set, getD}
-use Rattle.rules.specs.Picture.{area}
-use Rattle.rules.specs.Limits.{maxSide, maxWindow}
+use Rattle.rules.specs.Limits.{maxWindow}
 use Rattle.filters.specs.Window.{written}
-use Rattle.filters.specs.Median.{medianOf, Holds, Middle, sumOf}
+use Rattle.filters.specs.Median.{medianOf, Holds, Middle}
 use Rattle.filters.proofs.Pixels.{Row, row-of-picture}
 use Rattle.filters.proofs.Writing.{write-start, write-more}
 use Rattle.filters.proofs.Windows.{counts-of, all-counted, median-at, no-columns, none-below}
 use Rattle.filters.proofs.median.slide.Statement.{statement}
 use Rattle.filters.proofs.median.slide.Tie as tie
-use Rattle.filters.proofs.median.slide.Reads as reads
-use Rattle.filters.proofs.median.slide.Lts as lts
-use Rattle.filters.proofs.median.first_window.Reads as first-window-reads
-use Rattle.filters.proofs.median.move_window.Reads as move-window-reads
-use Rattle.filters.proofs.median.select.Reads as select-reads
 
 abbrev Inv-loop : tie.InvT-loop
 Inv-loop pixels size border rows y out₀ counts₀ item a value₀ below₀ x₀ out counts value below x =

@@ -1,23 +1,17 @@
 -- `take_column` meets its contract, sample by sample. Assumes nothing.
 use borrow.Author.Needs.{needs, zero≤}
 use native.Mathlib.Omega.{arith}
-use mathlib.Core.Path.{_≡_, refl, ap, _∙_}
-use Prim.Native.Nat.{ℕ, _≤_, _+_, _-_, _*_, _<_}
+use mathlib.Core.Path.{_≡_, refl}
+use Prim.Native.Nat.{ℕ, _≤_, _+_, _-_, _<_}
 use denote.Ref.{now}
 use lib.ListN.{length, length-set, getD}
-use mathlib.Core.List.{List}
 use lib.Dec.{ltb}
-use Rattle.rules.specs.Limits.{maxSide}
 use Rattle.rules.specs.Picture.{tally}
 use Rattle.filters.specs.Median.{columnAt, belows, takeAll}
 use Rattle.filters.proofs.Places.{read-byte}
 use Rattle.filters.proofs.Counting.{take-more, take-some, belows-more, tally-longer}
 use Rattle.filters.proofs.median.take_column.Statement.{statement}
 use Rattle.filters.proofs.median.take_column.Tie as tie
-use Rattle.filters.proofs.median.take_column.Reads as reads
-use Rattle.filters.proofs.median.take_column.Lts as lts
-use Rattle.filters.proofs.median.one_less.Reads as one-less-reads
-use Rattle.filters.proofs.median.read.Reads as read-reads
 
 abbrev Inv-loop : tie.InvT-loop
 Inv-loop pixels size rows x value below counts₀ n₀ j₀ counts n j =

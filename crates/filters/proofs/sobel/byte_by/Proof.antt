@@ -2,15 +2,12 @@
 use borrow.Author.Needs.{needs}
 use native.Mathlib.Omega.{arith}
 use mathlib.Core.Path.{_≡_}
-use Prim.Native.Nat.{ℕ, _-_, _<_, _≤_}
+use Prim.Native.Nat.{_-_, _<_, _≤_}
 use Rattle.rules.specs.Root.{upperEnd}
 use Rattle.rules.proofs.Roots.{byte-at, byte-over}
 use Rattle.filters.proofs.Guessing.{not-last}
 use Rattle.filters.proofs.sobel.byte_by.Statement.{statement}
 use Rattle.filters.proofs.sobel.byte_by.Tie as tie
-use Rattle.filters.proofs.sobel.byte_by.Reads as reads
-use Rattle.filters.proofs.sobel.byte_by.Lts as lts
-use Rattle.filters.proofs.sobel.guess.Reads as guess-reads
 
 abbrev Inv-loop : tie.InvT-loop
 Inv-loop ends s n₀ n = n < 255

@@ -2,7 +2,7 @@
 use borrow.Author.Needs.{needs, zero≤}
 use native.Mathlib.Omega.{arith}
 use mathlib.Core.Path.{_≡_, refl}
-use Prim.Native.Nat.{ℕ, _≤_, _-_, _*_}
+use Prim.Native.Nat.{_≤_, _-_, _*_}
 use denote.Ref.{now}
 use lib.ListN.{length}
 use Rattle.filters.specs.Window.{written}

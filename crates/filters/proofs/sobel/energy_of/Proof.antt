@@ -1,10 +1,9 @@
 -- `energy_of` meets its contract: the two components are small enough for their squares. Assumes nothing.
 use borrow.Author.Needs.{needs}
 use native.Mathlib.Omega.{arith}
-use mathlib.Core.Path.{_≡_, ap₂, _∙_}
-use Prim.Native.Nat.{ℕ, _<_, _≤_}
+use mathlib.Core.Path.{ap₂, _∙_}
+use Prim.Native.Nat.{_≤_}
 use denote.Ref.{now}
-use lib.ListN.{getD}
 use lib.IntN.{natAbs}
 use Rattle.rules.specs.Gradient.{energy}
 use Rattle.filters.proofs.Energies.{gx-within, gy-within, wide-fits, square-fits, both-fits, energy-cast, energy-is}

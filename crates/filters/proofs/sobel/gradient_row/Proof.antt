@@ -1,24 +1,14 @@
 -- `gradient_row` meets its contract: a row through the border, or its inner pixels straight from the bytes between two that are not. Assumes nothing.
 use borrow.Author.Needs.{needs}
 use native.Mathlib.Omega.{arith}
-use native.Mathlib.Nat.{add-mul, mul-le-mul-right}
-use mathlib.Core.Path.{_≡_}
-use Prim.Native.Nat.{ℕ, _+_, _*_, _<_, _≤_}
+use Prim.Native.Nat.{_*_}
 use denote.Ref.{now}
-use lib.ListN.{length}
-use Rattle.rules.specs.Picture.{area}
 use Rattle.rules.specs.Gradient.{gxTable, gyTable}
-use Rattle.rules.proofs.Grid.{row-in}
 use Rattle.filters.specs.Sobel.{gxOf, gyOf, insideOf}
 use Rattle.filters.proofs.Pixels.{Row, row-of-picture, InnerRow, inner-row, inner-is}
 use Rattle.filters.proofs.Writing.{three-runs}
 use Rattle.filters.proofs.sobel.gradient_row.Statement.{statement}
 use Rattle.filters.proofs.sobel.gradient_row.Tie as tie
-use Rattle.filters.proofs.sobel.gradient_row.Reads as reads
-use Rattle.filters.proofs.sobel.gradient_row.Lts as lts
-use Rattle.filters.proofs.sobel.inner_count.Reads as inner-count-reads
-use Rattle.filters.proofs.sobel.inner_gradients.Reads as inner-gradients-reads
-use Rattle.filters.proofs.sobel.outer_gradients.Reads as outer-gradients-reads
 
 -- the row lies in the picture
 row : (s : tie.Start) → Row (s .args .size) (s .args .y)

@@ -2,7 +2,7 @@
 use borrow.Author.Needs.{needs, zero≤}
 use native.Mathlib.Omega.{arith}
 use mathlib.Core.Path.{_≡_, refl}
-use Prim.Native.Nat.{ℕ, _≤_, _-_, _*_}
+use Prim.Native.Nat.{_≤_, _-_, _*_}
 use denote.Ref.{now}
 use lib.ListN.{length}
 use Rattle.filters.specs.Window.{written}
@@ -10,9 +10,6 @@ use Rattle.filters.specs.Sobel.{gxOf, gyOf}
 use Rattle.filters.proofs.Writing.{rows-start, rows-more, rows-all}
 use Rattle.filters.proofs.sobel.gradient_rows.Statement.{statement}
 use Rattle.filters.proofs.sobel.gradient_rows.Tie as tie
-use Rattle.filters.proofs.sobel.gradient_rows.Reads as reads
-use Rattle.filters.proofs.sobel.gradient_rows.Lts as lts
-use Rattle.filters.proofs.sobel.gradient_row.Reads as gradient-row-reads
 
 abbrev Inv-loop : tie.InvT-loop
 Inv-loop pixels size border gx₀ gy₀ y₀ gx gy y =

@@ -2,7 +2,7 @@
 use borrow.Author.Needs.{needs}
 use native.Mathlib.Omega.{arith}
 use mathlib.Core.Path.{_≡_, refl, ap, _∙_}
-use Prim.Native.Nat.{ℕ, _≤_, _-_, _/_, _%_, _<_}
+use Prim.Native.Nat.{_≤_, _-_, _<_}
 use denote.Ref.{now}
 use lib.ListN.{length, length-set}
 use Rattle.filters.specs.Window.{written}
@@ -10,10 +10,6 @@ use Rattle.filters.specs.Sobel.{nineByte, byteInside}
 use Rattle.filters.proofs.Writing.{write-start, write-more}
 use Rattle.filters.proofs.sobel.inner_bytes.Statement.{statement}
 use Rattle.filters.proofs.sobel.inner_bytes.Tie as tie
-use Rattle.filters.proofs.sobel.inner_bytes.Reads as reads
-use Rattle.filters.proofs.sobel.inner_bytes.Lts as lts
-use Rattle.filters.proofs.sobel.byte_of.Reads as byte-of-reads
-use Rattle.filters.proofs.sobel.nine_inside.Reads as nine-inside-reads
 
 abbrev Inv-loop : tie.InvT-loop
 Inv-loop pixels width ends a e out₀ i₀ out i = (i ≤ e) × (length out ≡ length out₀) × (a ≤ i) × (out ≡ written a i (byteInside pixels width) out₀)

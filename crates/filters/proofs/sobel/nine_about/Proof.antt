@@ -3,17 +3,14 @@ use borrow.Author.Needs.{needs, zero≤}
 use native.Mathlib.Omega.{arith}
 use mathlib.Core.Path.{_≡_, refl, _∙_}
 use mathlib.Core.List.{append-nil}
-use Prim.Native.Nat.{ℕ, _≤_, _-_}
+use Prim.Native.Nat.{_≤_, _-_}
 use denote.Ref.{now}
 use lib.ListN.{length, length-set}
-use Rattle.rules.specs.Picture.{tabulate, filled}
+use Rattle.rules.specs.Picture.{filled}
 use Rattle.rules.proofs.Fill.{fill-start, fill-more}
 use Rattle.filters.specs.Sobel.{nineAbout, aboutAt}
 use Rattle.filters.proofs.sobel.nine_about.Statement.{statement}
 use Rattle.filters.proofs.sobel.nine_about.Tie as tie
-use Rattle.filters.proofs.sobel.nine_about.Reads as reads
-use Rattle.filters.proofs.sobel.nine_about.Lts as lts
-use Rattle.filters.proofs.window.window_sample.Reads as window-sample-reads
 
 abbrev Inv-loop : tie.InvT-loop
 Inv-loop pixels size border x y nine₀ j₀ nine j = (j ≤ 9) × (length nine ≡ length nine₀) × (nine ≡ filled j (aboutAt size border pixels x y) nine₀)

@@ -2,7 +2,7 @@
 use borrow.Author.Needs.{needs}
 use native.Mathlib.Omega.{arith}
 use mathlib.Core.Path.{_≡_, refl, ap, _∙_}
-use Prim.Native.Nat.{ℕ, _≤_, _-_, _/_, _%_, _<_}
+use Prim.Native.Nat.{_≤_, _-_, _/_, _%_, _<_}
 use denote.Ref.{now}
 use lib.ListN.{length, length-set}
 use Rattle.filters.specs.Window.{written, Window}
@@ -11,10 +11,6 @@ use Rattle.filters.proofs.Writing.{write-start, write-more}
 use Rattle.filters.proofs.Pixels.{window-at, byte-about-is}
 use Rattle.filters.proofs.sobel.outer_bytes.Statement.{statement}
 use Rattle.filters.proofs.sobel.outer_bytes.Tie as tie
-use Rattle.filters.proofs.sobel.outer_bytes.Reads as reads
-use Rattle.filters.proofs.sobel.outer_bytes.Lts as lts
-use Rattle.filters.proofs.sobel.byte_of.Reads as byte-of-reads
-use Rattle.filters.proofs.sobel.nine_about.Reads as nine-about-reads
 
 abbrev Inv-loop : tie.InvT-loop
 Inv-loop pixels size border ends a e out₀ i₀ out i = (i ≤ e) × (length out ≡ length out₀) × (a ≤ i) × (out ≡ written a i (byteOf size border pixels) out₀)

@@ -1,11 +1,10 @@
 -- `outer_gradients` meets its contract, pixel by pixel. Assumes nothing.
-use borrow.Author.Needs.{needs, zero≤}
+use borrow.Author.Needs.{needs}
 use native.Mathlib.Omega.{arith}
-use mathlib.Core.Path.{_≡_, refl, sym, ap, _∙_}
-use Prim.Native.Nat.{ℕ, _≤_, _-_, _+_, _*_, _/_, _%_, _<_}
+use mathlib.Core.Path.{_≡_, refl, ap, _∙_}
+use Prim.Native.Nat.{_≤_, _-_, _/_, _%_, _<_}
 use denote.Ref.{now}
-use lib.ListN.{length, length-set, getD}
-use Rattle.rules.specs.Picture.{area}
+use lib.ListN.{length, length-set}
 use Rattle.rules.specs.Gradient.{gxTable, gyTable}
 use Rattle.filters.specs.Sobel.{component, gxOf, gyOf}
 use Rattle.filters.specs.Window.{written, Window}
@@ -14,11 +13,6 @@ use Rattle.filters.proofs.Writing.{write-start, write-more}
 use Rattle.filters.proofs.Pixels.{window-at, about-is}
 use Rattle.filters.proofs.sobel.outer_gradients.Statement.{statement}
 use Rattle.filters.proofs.sobel.outer_gradients.Tie as tie
-use Rattle.filters.proofs.sobel.outer_gradients.Reads as reads
-use Rattle.filters.proofs.sobel.outer_gradients.Lts as lts
-use Rattle.filters.proofs.sobel.gx_of.Reads as gx-of-reads
-use Rattle.filters.proofs.sobel.gy_of.Reads as gy-of-reads
-use Rattle.filters.proofs.sobel.nine_about.Reads as nine-about-reads
 
 abbrev Inv-loop : tie.InvT-loop
 Inv-loop pixels size border a e gx₀ gy₀ i₀ gx gy i =

@@ -14,8 +14,6 @@ use Rattle.filters.specs.Sobel.{component}
 use Rattle.filters.proofs.Components.{term, sum-within, byte-fits, product-fits, sum-is, sum-fits}
 use Rattle.filters.proofs.sobel.weigh.Statement.{statement}
 use Rattle.filters.proofs.sobel.weigh.Tie as tie
-use Rattle.filters.proofs.sobel.weigh.Reads as reads
-use Rattle.filters.proofs.sobel.weigh.Lts as lts
 
 abbrev Inv-loop : tie.InvT-loop
 Inv-loop weights nine sum₀ j₀ sum j = (j ≤ 9) × (natAbs (sumZ (term weights nine) j) ≤ 510 * j) × (sum ≡ ofZ w16 (sumZ (term weights nine) j))

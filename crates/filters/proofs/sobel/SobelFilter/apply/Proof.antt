@@ -1,6 +1,5 @@
 -- `SobelFilter::apply` meets its contract: the refusals in their order, then every row. Assumes nothing.
 use borrow.Author.Needs.{needs}
-use mathlib.Core.Path.{_≡_}
 use denote.Ref.{now}
 use Rattle.rules.specs.Calls.{sobel}
 use Rattle.filters.proofs.Refusing.{picture-of, plain-early, plain-no-room, plain-done}
