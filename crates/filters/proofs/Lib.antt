@@ -1,6 +1,6 @@
 -- Laws about this crate's code that several of its proofs cite.
 pub mod Resolving
-pub mod Sampling
+pub mod Reading
 pub mod Magic
 pub mod Rounding
 pub mod Taps

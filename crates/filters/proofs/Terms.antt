@@ -23,7 +23,7 @@ use Rattle.rules.proofs.Grid.{part-at, part-length, row-in}
 use Rattle.rules.proofs.Border.{Within, resolved-within, resolved-inside}
 use Rattle.filters.specs.Lent.{Row}
 use Rattle.filters.specs.Blocks.{added, rowAt, readRow}
-use Rattle.filters.proofs.Sampling.{below, cell}
+use Rattle.rules.proofs.Sampling.{below, cell}
 
 -- ---- the flipped weight
 

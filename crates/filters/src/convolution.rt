@@ -16,8 +16,8 @@ use rules::Size;
 ghost use mathlib.Core.Path.{_≡_};
 ghost use Prim.Native.Nat.{ℕ, _≤_, _<_, _*_};
 ghost use Rattle.rules.specs.Limits.{maxSide};
-ghost use Rattle.rules.specs.Border.{emod, clampOf, mirrorOf, resolved, coordSays, byteSample};
-ghost use Rattle.filters.specs.Lent.{Whole, placeIn};
+ghost use Rattle.rules.specs.Border.{emod, clampOf, mirrorOf, resolved, coordSays};
+ghost use Rattle.rules.proofs.Sampling.{placeIn};
 ghost use Rattle.rules.specs.Calls.{resolveCoord, applyKernel, applySeparableKernel};
 
 // The non-negative remainder of c by p: the machine's, mended where it is negative.
@@ -102,23 +102,6 @@ pub(crate) fn place(c: i64, side: usize, border: BorderMode) -> usize
         Coord::Nothing => side,
         Coord::Refused => side,
     }
-}
-
-// The byte in column cx and row cy: outside reads as 0.
-pub(crate) fn sample(pixels: &[u8], size: Size, cx: i64, cy: i64, border: BorderMode) -> u8
-    requires { ⌜ Whole size (now pixels) ⌝ }
-    ensures { λ r. ⌜ r ≡ byteSample (now (pixels .entry)) size border cx cy ⌝ }
-{
-    let x = place(cx, size.width, border);
-    if size.width <= x {
-        return 0;
-    }
-    let y = place(cy, size.height, border);
-    if size.height <= y {
-        return 0;
-    }
-    let i = y * size.width + x;
-    pixels[i]
 }
 
 // Convolves a byte picture with a kernel whose weights are lent in row order.

@@ -15,7 +15,8 @@ ghost use Rattle.rules.specs.Border.{resolved};
 ghost use Rattle.rules.specs.Sums.{plusZero};
 ghost use Rattle.rules.specs.Filters.{ofBytes, ofFloats, sampler, kernelTerm, kernelSum, columnKernel};
 ghost use Rattle.rules.proofs.Sums.{oneMore};
-ghost use Rattle.filters.specs.Lent.{placeIn, Row};
+ghost use Rattle.rules.proofs.Sampling.{placeIn};
+ghost use Rattle.filters.specs.Lent.{Row};
 ghost use Rattle.filters.specs.Blocks.{added, rowAt, Inner, ByteBlock, FloatBlock};
 
 // The first n are +0.

@@ -14,6 +14,10 @@ pub mod Answers
 pub mod Blurs
 pub mod Grid
 pub mod Border
+pub mod Sampling
 pub mod Signed
 pub mod Roots
 pub mod Paths
+pub mod Sizes
+pub mod Gradients
+pub mod Sorting

@@ -1,6 +1,6 @@
 -- `place` meets its contract, case by case of what `resolve` gives. Assumes nothing.
 use borrow.Author.Needs.{needs}
-use Rattle.filters.proofs.Sampling.{place-case}
+use Rattle.rules.proofs.Sampling.{place-case}
 use Rattle.filters.proofs.convolution.place.Statement.{statement}
 use Rattle.filters.proofs.convolution.place.Tie as tie
 

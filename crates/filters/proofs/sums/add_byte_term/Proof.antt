@@ -8,7 +8,7 @@ use lib.ListN.{length}
 use Rattle.rules.specs.Limits.{maxSide}
 use Rattle.rules.specs.Picture.{area}
 use Rattle.rules.specs.Border.{under}
-use Rattle.filters.proofs.Sampling.{inside, outside}
+use Rattle.rules.proofs.Sampling.{inside, outside}
 use Rattle.filters.proofs.Terms.{flipped-is, byte-row, byte-nowhere, kernel-place, row-ends, lent-is}
 use Rattle.filters.proofs.sums.add_byte_term.Statement.{statement}
 use Rattle.filters.proofs.sums.add_byte_term.Tie as tie

@@ -11,7 +11,7 @@ use Rattle.rules.specs.Limits.{maxSide}
 use Rattle.rules.specs.Picture.{area}
 use Rattle.rules.specs.Border.{under}
 use Rattle.rules.specs.Filters.{columnKernel}
-use Rattle.filters.proofs.Sampling.{inside, outside}
+use Rattle.rules.proofs.Sampling.{inside, outside}
 use Rattle.filters.proofs.Terms.{flipped-is, float-row, float-nowhere, row-ends}
 use Rattle.filters.proofs.sums.add_float_term.Statement.{statement}
 use Rattle.filters.proofs.sums.add_float_term.Tie as tie

@@ -1,7 +1,7 @@
 -- `edge` meets its contract: at the coordinate's place, or nowhere. Assumes nothing.
 use borrow.Author.Needs.{needs}
 use denote.Ref.{now}
-use Rattle.filters.proofs.Sampling.{row-cell, row-nowhere}
+use Rattle.filters.proofs.Reading.{row-cell, row-nowhere}
 use Rattle.filters.proofs.sums.edge.Statement.{statement}
 use Rattle.filters.proofs.sums.edge.Tie as tie
 

@@ -7,9 +7,9 @@ use denote.Ref.{now}
 use lib.ListN.{length, getD}
 use Rattle.rules.specs.Limits.{maxSide}
 use Rattle.rules.proofs.Grid.{pixel-in}
-use Rattle.filters.proofs.Sampling.{place-of, inside, outside, beside, below, cell}
-use Rattle.filters.proofs.convolution.sample.Statement.{statement}
-use Rattle.filters.proofs.convolution.sample.Tie as tie
+use Rattle.rules.proofs.Sampling.{place-of, inside, outside, beside, below, cell}
+use Rattle.windows.proofs.window.sample.Statement.{statement}
+use Rattle.windows.proofs.window.sample.Tie as tie
 
 place-requires : tie.Need-place-requires
 place-requires c κs = search needs

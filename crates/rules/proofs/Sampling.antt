@@ -2,22 +2,28 @@
 use mathlib.Core.Path.{_≡_, refl, sym, ap, _∙_}
 use Prim.Native.Nat.{ℕ, _+_, _*_, _<_, _≤_}
 use native.Mathlib.Omega.{arith}
-use mathlib.Core.List.{List}
-use lib.ListN.{length}
-use lib.IntN.{ℤ, pos, _-ℤ_}
+use mathlib.Core.Bool.{false}
+use mathlib.Core.Option.{Option, some, none}
+use lib.Dec.{eqb}
+use borrow.Author.Tests.{ne-eqb, le-ltb}
+use lib.IntN.{ℤ}
 use mir.Syntax.{w64}
 use mir.Val.{SFits, toZ, ofZ}
 use mir.ValLaws.{toZ-ofZ}
-use Rattle.rules.specs.Border.{resolved, entryAt, sampleAt}
-use Rattle.rules.specs.Sums.{plusZero}
-use Rattle.rules.specs.Filters.{ofBytes}
+use Rattle.rules.specs.Limits.{maxSide}
+use Rattle.rules.specs.Border.{resolved, entryAt, sampleAt, coordSays}
+use Rattle.rules.specs.Calls.{resolveCoord}
 use Rattle.rules.specs.declared.Size.{Size}
 use Rattle.rules.specs.declared.BorderMode.{BorderMode}
 use Rattle.rules.specs.declared.Coord.{Coord}
 use Rattle.rules.specs.declared.Coord.the-variants.{At, Nothing, Refused}
 use Rattle.rules.proofs.Border.{Within, resolved-within}
-use Rattle.filters.specs.Lent.{placeIn}
-use Rattle.filters.specs.Blocks.{rowAt}
+
+-- a resolved coordinate as a number: the side itself stands for nowhere
+abbrev pub placeIn : ℕ → Coord → ℕ
+placeIn side (At i) = i
+placeIn side Nothing = side
+placeIn side Refused = side
 
 -- what `place` gave, of the coordinate itself: a signed argument goes by its bits
 pub place-of : (mode : BorderMode) (z : ℤ) (side p : ℕ) → SFits w64 z → p ≡ placeIn side (resolved mode (toZ w64 (ofZ w64 z)) side) → p ≡ placeIn side (resolved mode z side)
@@ -64,12 +70,24 @@ module _ {A : Type 0} (z : A) (at : ℕ → A) (d : Size) (mode : BorderMode) (c
   unfolding sampleAt
   cell x y e f = rw (e, f)
 
--- a row's sample at coordinate at - half, by the coordinate's place p
-module _ (row : List ℕ) (mode : BorderMode) (at half p : ℕ) (e : p ≡ placeIn (length row) (resolved mode (pos at -ℤ pos half) (length row))) where
-  pub row-cell : p < length row → ofBytes row p ≡ rowAt row mode at half
-  unfolding rowAt
-  row-cell h = rw (inside mode (pos at -ℤ pos half) (length row) p e h)
+-- what `resolve_coord` says of a side that is not refused
+back : ℕ × Option ℕ → Coord
+back s = go (s .0) (s .1)
+  where
+    go : ℕ → Option ℕ → Coord
+    go ℕ.zero (some i) = At i
+    go ℕ.zero none = Nothing
+    go (ℕ.suc n) o = Refused
 
-  pub row-nowhere : 0 < length row → length row ≤ p → plusZero ≡ rowAt row mode at half
-  unfolding rowAt
-  row-nowhere s h = rw (outside mode (pos at -ℤ pos half) (length row) p e s h)
+says-once : (c : Coord) → back (coordSays c) ≡ c
+unfolding back
+says-once (At i) = refl
+says-once Nothing = refl
+says-once Refused = refl
+
+pub resolved-of : (mode : BorderMode) (z : ℤ) (side : ℕ) (r : Coord) → 0 < side → side ≤ maxSide → coordSays r ≡ resolveCoord z side mode → r ≡ resolved mode z side
+unfolding resolveCoord
+resolved-of mode z side r p q e =
+    let n : eqb side 0 ≡ false = ne-eqb side 0 (λ w. omega arith) in
+    let f : coordSays r ≡ coordSays (resolved mode z side) = rw (n, le-ltb maxSide side q) at e in
+    sym (says-once r) ∙ ap back f ∙ says-once (resolved mode z side)

@@ -1,0 +1,10 @@
+-- Laws about this crate's code that several of its proofs cite.
+pub mod Components
+pub mod Pixels
+pub mod Writing
+pub mod Refusing
+pub mod Guessing
+pub mod Energies
+pub mod Counting
+pub mod Places
+pub mod Windows

@@ -1,0 +1,18 @@
+-- `byte_of` meets its contract: the byte of S. Assumes nothing.
+use borrow.Author.Needs.{needs}
+use mathlib.Core.Path.{ap, _∙_}
+use Rattle.rules.specs.Root.{sobelByte}
+use Rattle.windows.proofs.sobel.byte_of.Statement.{statement}
+use Rattle.windows.proofs.sobel.byte_of.Tie as tie
+
+energy-of-requires : tie.Need-energy-of-requires
+energy-of-requires c κs = search needs
+
+byte-by-requires : tie.Need-byte-by-requires
+byte-by-requires c κs = search needs
+
+returns : tie.Need-returns
+returns c = c .byte-by .ensures ∙ ap sobelByte (c .before .energy-of .ensures)
+
+pub byte-of-spec : {M : Type 1} → statement M
+byte-of-spec = tie.close (tie.spec energy-of-requires byte-by-requires returns)

@@ -1,0 +1,93 @@
+-- `outer_bytes` meets its contract, pixel by pixel. Assumes nothing.
+use borrow.Author.Needs.{needs}
+use native.Mathlib.Omega.{arith}
+use mathlib.Core.Path.{_≡_, refl, ap, _∙_}
+use Prim.Native.Nat.{_≤_, _-_, _/_, _%_, _<_}
+use denote.Ref.{now}
+use lib.ListN.{length, length-set}
+use Rattle.windows.specs.Window.{written, Window}
+use Rattle.windows.specs.Sobel.{nineByte, byteOf}
+use Rattle.windows.proofs.Writing.{write-start, write-more}
+use Rattle.windows.proofs.Pixels.{window-at, byte-about-is}
+use Rattle.windows.proofs.sobel.outer_bytes.Statement.{statement}
+use Rattle.windows.proofs.sobel.outer_bytes.Tie as tie
+
+abbrev Inv-loop : tie.InvT-loop
+Inv-loop pixels size border ends a e out₀ i₀ out i = (i ≤ e) × (length out ≡ length out₀) × (a ≤ i) × (out ≡ written a i (byteOf size border pixels) out₀)
+
+abbrev μ-loop : tie.MeasureT-loop
+μ-loop pixels size border ends a e out₀ i₀ out i = e - i
+
+-- the pixel that a turn writes has its window
+about : (c : tie.In-loop Inv-loop μ-loop) → let a = c .before .before .before .before .before .args in Window (a .size) (now (a .pixels)) 3 (c .before .loop .i % a .size .width) (c .before .loop .i / a .size .width)
+about c =
+    let s = c .before .before .before .before .before in
+    window-at (s .args .size) (now (s .args .pixels)) 3 (c .before .loop .i) (s .pre .0) (omega arith) (omega arith) (omega (arith, s .pre .1 .to, c .loop-test .taken))
+
+loop-holds : tie.Need-loop-holds Inv-loop μ-loop
+loop-holds c = (c .before .before .before .pre .1 .from, refl, omega arith, write-start _ _ _)
+
+rem-nine-about : tie.Need-rem-nine-about Inv-loop μ-loop
+rem-nine-about c = about (c .before) .picture .wide
+
+div-nine-about : tie.Need-div-nine-about Inv-loop μ-loop
+div-nine-about c = about (c .before .before) .picture .wide
+
+nine-about-requires : tie.Need-nine-about-requires Inv-loop μ-loop
+nine-about-requires c κs = about (c .before .before)
+
+slice-aggregate-byte-of : tie.Need-slice-aggregate-byte-of Inv-loop μ-loop
+slice-aggregate-byte-of c = search needs
+
+byte-of-requires : tie.Need-byte-of-requires Inv-loop μ-loop
+byte-of-requires c κs = search needs
+
+slice-write-out : tie.Need-slice-write-out Inv-loop μ-loop
+slice-write-out c = search needs
+
+add-i : tie.Need-add-i Inv-loop μ-loop
+add-i c = search needs
+
+loop-less : tie.Need-loop-less Inv-loop μ-loop
+loop-less c = search needs
+
+loop-again : tie.Need-loop-again Inv-loop μ-loop
+loop-again c =
+    let m = c .before .before .before .before .before .before in
+    let l = m .loop in
+    let a = m .before .before .before .before .args in
+    let h : l .i < length (now (a .out)) = omega arith in (
+      search needs,
+      simp length-set (l .inv .1),
+      search needs,
+      write-more (a .a) (byteOf (a .size) (a .border) (now (a .pixels))) (now (a .out)) (l .i) (l .out) _ (l .inv .2) h (l .inv .3)
+          (c .byte-of .ensures ∙ ap nineByte (c .before .before .nine-about .ensures) ∙ byte-about-is (a .size) (a .border) (now (a .pixels)) _ _),
+    )
+
+same-length : tie.Need-same-length Inv-loop μ-loop
+same-length c = search needs
+
+returns : tie.Need-returns Inv-loop μ-loop
+returns c =
+    let l = c .before .loop in
+    let n : l .i ≡ c .before .before .before .before .before .args .e = omega arith in
+    rw n at (l .inv .3)
+
+pub outer-bytes-spec : {M : Type 1} → statement M
+outer-bytes-spec =
+    tie.close
+    (tie.spec
+    Inv-loop
+    μ-loop
+    loop-holds
+    rem-nine-about
+    div-nine-about
+    nine-about-requires
+    slice-aggregate-byte-of
+    byte-of-requires
+    slice-write-out
+    add-i
+    loop-less
+    loop-again
+    same-length
+    returns)

@@ -1,0 +1,44 @@
+-- What the loops over a picture's pixels require: the lent picture, a run of pixels to write, and a window about one of them.
+use Prim.Native.Nat.{ℕ, _+_, _-_, _*_, _<_, _≤_}
+use mathlib.Core.Path.{_≡_}
+use mathlib.Core.List.{List, _++_}
+use lib.ListN.{length, take, drop}
+use Rattle.rules.specs.Limits.{maxSide, maxWindow}
+use Rattle.rules.specs.Picture.{area, tabulate}
+use Rattle.rules.specs.declared.Size.{Size}
+
+-- a lent picture of an accepted call: a side of 0 is one too
+pub record Picture (d : Size) (pixels : List ℕ) : Type 0 where
+  pub width-fits : d .width ≤ maxSide
+  pub height-fits : d .height ≤ maxSide
+  pub long : length pixels ≡ area d
+
+-- and one that has a pixel
+pub record Whole (d : Size) (pixels : List ℕ) : Type 0 where
+  pub wide : 0 < d .width
+  pub high : 0 < d .height
+  pub width-fits : d .width ≤ maxSide
+  pub height-fits : d .height ≤ maxSide
+  pub long : length pixels ≡ area d
+
+-- the buffer `old` with g a, .., g (e - 1) written over its entries from a to e
+unfoldable pub written {ℓ} : {A : Type ℓ} → ℕ → ℕ → (ℕ → A) → List A → List A
+written a e g old = take a old ++ (tabulate (e - a) (λ k. g (a + k)) ++ drop e old)
+
+-- with row y of a picture
+abbrev pub writtenRow {ℓ} : {A : Type ℓ} → Size → ℕ → (ℕ → A) → List A → List A
+writtenRow d y g old = written (y * d .width) (y * d .width + d .width) g old
+
+-- the pixels from index a to index e, and a buffer to write them into
+pub record Run {ℓ} {A : Type ℓ} (d : Size) (a e : ℕ) (out : List A) : Type 0 where
+  pub from : a ≤ e
+  pub to : e ≤ area d
+  pub room : area d ≤ length out
+
+-- a pixel, with the side of a window about it
+pub record Window (d : Size) (pixels : List ℕ) (side x y : ℕ) : Type 0 where
+  pub picture : Whole d pixels
+  pub some : 0 < side
+  pub few : side ≤ maxWindow
+  pub column : x < d .width
+  pub row : y < d .height
