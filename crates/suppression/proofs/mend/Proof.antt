@@ -1,8 +1,7 @@
 -- `mend` meets its contract: up until m is not too low, down until it is not too high; one number alone is neither. Assumes nothing.
-use borrow.Author.Needs.{needs, zero≤}
+use borrow.Author.Needs.{needs}
 use native.Mathlib.Omega.{arith}
-use Prim.Native.Nat.{ℕ, _+_, _-_, _*_, _^_, _<_, _≤_}
-use mathlib.Core.Path.{_≡_}
+use Prim.Native.Nat.{_+_, _-_, _*_, _^_, _<_, _≤_}
 use Rattle.suppression.proofs.Mending.{square-fits, more-fits, some, less-reaches}
 use Rattle.rules.proofs.Roots.{near-only, near-is}
 use Rattle.suppression.proofs.mend.Statement.{statement}
