@@ -26,15 +26,15 @@ more-fits m t h u l =
     let no : 2 ^ 24 - 1 ≤ m → ⊥ = λ k. lt-irrefl t (omega (arith, mul-le-mul k k)) in
     omega arith
 
--- too high, so not 0
-pub some : (m t : ℕ) → 0 < t → t + m ≤ m * m → 0 < m
-some zero t h l = absurd (omega arith)
-some (suc m) t h l = omega arith
+-- a number with a square above 0
+pub some : (m n : ℕ) → n ≤ m * m → 0 < n → 0 < m
+some zero n l h = absurd (omega arith)
+some (suc m) n l h = omega arith
 
--- and one less is not too low
+-- too high, so one less is not too low
 pub less-reaches : (m t : ℕ) → 0 < t → t + m ≤ m * m → t ≤ (m - 1) * (m - 1) + (m - 1)
 less-reaches m t h l =
-    let p = some m t h l in
+    let p = some m (t + m) l (omega arith) in
     let e : m - 1 + 1 ≡ m = omega arith in
     omega (arith, ap (λ (x : ℕ). x * x) e, suc-sq (m - 1))
 

@@ -47,10 +47,10 @@ mul-loop2 : tie.Need-mul-loop2 Inv-loop μ-loop Inv-loop2 μ-loop2
 mul-loop2 c = omega (arith, square-fits (c .loop2 .m) (c .loop2 .inv .0))
 
 sub-m : tie.Need-sub-m Inv-loop μ-loop Inv-loop2 μ-loop2
-sub-m c = some (c .before .loop2 .m) (c .before .before .before .before .args .t) (omega arith) (c .loop2-test .taken)
+sub-m c = some (c .before .loop2 .m) _ (c .loop2-test .taken) (omega arith)
 
 loop2-less : tie.Need-loop2-less Inv-loop μ-loop Inv-loop2 μ-loop2
-loop2-less c = omega (arith, some (c .before .loop2 .m) (c .before .before .before .before .args .t) (omega arith) (c .loop2-test .taken))
+loop2-less c = let h : 0 < c .before .loop2 .m = some (c .before .loop2 .m) _ (c .loop2-test .taken) (omega arith) in omega arith
 
 loop2-again : tie.Need-loop2-again Inv-loop μ-loop Inv-loop2 μ-loop2
 loop2-again c = (search needs, less-reaches (c .before .loop2 .m) (c .before .before .before .before .args .t) (omega arith) (c .loop2-test .taken))
