@@ -1,11 +1,11 @@
 // Canny's gradient stages: the magnitude of a gradient, its sector, and non-maximum suppression. Each public call refuses by number
 // or runs by document 01's rules.
 use rules::ACCEPTED;
-use rules::MAX_SIDE;
 use rules::REFUSED_INPUT;
 use rules::REFUSED_ROOM;
 use rules::REFUSED_SIDE;
 use rules::Size;
+use rules::table::side_over;
 ghost use mathlib.Core.Path.{_≡_};
 ghost use Prim.Native.Nat.{_+_, _*_, _^_, _<_, _≤_};
 ghost use lib.ListN.{length, drop};
@@ -16,9 +16,9 @@ ghost use Rattle.rules.specs.Gradient.{energy};
 ghost use Rattle.rules.specs.Root.{capS, nearRoot, rootOf, magnitudeOf};
 ghost use Rattle.rules.specs.Sector.{sectorOf};
 ghost use Rattle.rules.specs.Suppression.{suppressedAt};
-ghost use Rattle.rules.specs.Refusals.{first};
+ghost use Rattle.rules.specs.Refusals.{first, magnitudeRows, suppressionRows};
 ghost use Rattle.rules.specs.Calls.{magnitudeAt, painted, gradientMagnitude, nonMaximumSuppression};
-ghost use Rattle.suppression.specs.Lent.{SizeOf, Target, StepIs, componentRows, Inside, InnerRow, AnyRow, Pictures};
+ghost use Rattle.suppression.specs.Lent.{SizeOf, Target, StepIs, Inside, InnerRow, AnyRow, Pictures};
 ghost use Rattle.suppression.specs.Steps.{keptAt, rowAt};
 
 // ---- components
@@ -165,14 +165,11 @@ pub fn magnitude_of(s: u32) -> f32
 
 // ---- the calls
 
-// Rows 1 and 2 of the refusals, for the two components.
-fn components_refusal(gx: &[i16], gy: &[i16], size: Size) -> u8
-    ensures { λ r. ⌜ r ≡ first (componentRows size (now (gx .entry)) (now (gy .entry))) ⌝ }
+// The rows of 01's table that each call has, in ascending order.
+fn of_magnitude(gx: &[i16], gy: &[i16], size: Size, magnitude: &[f32]) -> u8
+    ensures { λ r. ⌜ r ≡ first (magnitudeRows size (now (gx .entry)) (now (gy .entry)) (now (magnitude .entry))) ⌝ }
 {
-    if MAX_SIDE < size.width {
-        return REFUSED_SIDE;
-    }
-    if MAX_SIDE < size.height {
+    if side_over(size) {
         return REFUSED_SIDE;
     }
     let n = size.width * size.height;
@@ -181,6 +178,31 @@ fn components_refusal(gx: &[i16], gy: &[i16], size: Size) -> u8
     }
     if gy.len() != n {
         return REFUSED_INPUT;
+    }
+    if magnitude.len() < n {
+        return REFUSED_ROOM;
+    }
+    ACCEPTED
+}
+
+fn of_suppression(magnitude: &[f32], gx: &[i16], gy: &[i16], size: Size, out: &[f32]) -> u8
+    ensures { λ r. ⌜ r ≡ first (suppressionRows size (now (magnitude .entry)) (now (gx .entry)) (now (gy .entry)) (now (out .entry))) ⌝ }
+{
+    if side_over(size) {
+        return REFUSED_SIDE;
+    }
+    let n = size.width * size.height;
+    if magnitude.len() != n {
+        return REFUSED_INPUT;
+    }
+    if gx.len() != n {
+        return REFUSED_INPUT;
+    }
+    if gy.len() != n {
+        return REFUSED_INPUT;
+    }
+    if out.len() < n {
+        return REFUSED_ROOM;
     }
     ACCEPTED
 }
@@ -216,14 +238,11 @@ pub fn gradient_magnitude(gx: &[i16], gy: &[i16], size: Size, magnitude: &mut [f
         ≡ gradientMagnitude size (now (gx .entry)) (now (gy .entry)) (now (magnitude .entry))
         ⌝ }
 {
-    let refusal = components_refusal(gx, gy, size);
+    let refusal = of_magnitude(gx, gy, size, magnitude);
     if refusal != ACCEPTED {
         return refusal;
     }
     let n = size.width * size.height;
-    if magnitude.len() < n {
-        return REFUSED_ROOM;
-    }
     guesses(gx, gy, n, magnitude);
     magnitudes(gx, gy, n, magnitude);
     ACCEPTED
@@ -344,16 +363,9 @@ pub fn non_maximum_suppression(
         ≡ nonMaximumSuppression size (now (magnitude .entry)) (now (gx .entry)) (now (gy .entry)) (now (out .entry))
         ⌝ }
 {
-    let refusal = components_refusal(gx, gy, size);
+    let refusal = of_suppression(magnitude, gx, gy, size, out);
     if refusal != ACCEPTED {
         return refusal;
-    }
-    let n = size.width * size.height;
-    if magnitude.len() != n {
-        return REFUSED_INPUT;
-    }
-    if out.len() < n {
-        return REFUSED_ROOM;
     }
     suppress(magnitude, gx, gy, size, out);
     ACCEPTED
