@@ -1,6 +1,6 @@
 -- Roots: `nearRoot` is the whole number nearest a root and the only one; 01's nearest f32 is there and is the only one (01.Gradient.4);
 -- Sobel's byte is the least of its rule and the only one (01.Gradient.5). Assumes nothing.
-use mathlib.Core.Path.{_≡_, refl, sym, ap, ap₂, _∙_}
+use mathlib.Core.Path.{_≡_, refl, ap, ap₂}
 use mathlib.Core.Bool.{Bool, true, false, cond}
 use Prim.Native.Nat.{ℕ, zero, suc, _+_, _-_, _*_, _/_, _^_, _<_, _≤_}
 use native.Mathlib.Nat.{mul-le-mul, mul-le-mul-left, mul-assoc, mul-left-comm, mul-add, add-mul, pow-suc, pow-succ', pow-le-pow-right, lt-irrefl, lt-of-not-le}

@@ -4,7 +4,7 @@ use mathlib.Core.Bool.{true, not, _&&_}
 use Prim.Native.Nat.{ℕ, _%_, _<_, _≤_}
 use native.Mathlib.Omega.{arith}
 use lib.Dec.{T}
-use lib.Ieee.{Float, nan, inf, fin, binary32, binary64, ofBits, lt, isNan, nanBits, fits}
+use lib.Ieee.{Float, nan, inf, fin, binary32, binary64, lt, isNan, nanBits, fits}
 use lib.Ieee.Bits.{nanBits-above}
 use lib.Ieee.Fits.{and-i, fits-widens}
 use borrow.Author.Tests.{le-ltb}

@@ -1,21 +1,19 @@
 -- A guess mended to the nearest root: each step keeps what the loops need, and what passes both tests is the root of 01's own words.
 -- Assumes nothing.
 use mathlib.Core.Path.{_≡_, refl, sym, ap, _∙_}
-use mathlib.Core.Bool.{Bool, true, false, not, cond}
-use Prim.Native.Nat.{ℕ, zero, suc, _+_, _-_, _*_, _/_, _%_, _^_, _<_, _≤_}
-use native.Mathlib.Nat.{mul-le-mul, mul-le-mul-left, mul-le-mul-right, add-mul, zero-add, pow-succ', pow-le-pow-right, lt-irrefl, lt-of-not-le, not-le-of-lt, le-trans}
+use mathlib.Core.Bool.{not}
+use Prim.Native.Nat.{ℕ, zero, suc, _+_, _-_, _*_, _/_, _^_, _<_, _≤_}
+use native.Mathlib.Nat.{mul-le-mul, mul-le-mul-right, add-mul, pow-succ', pow-le-pow-right, lt-irrefl}
 use native.Mathlib.Omega.{arith}
-use lib.Dec.{T, leb, ltb, eqb}
-use lib.IntN.{pos, negsuc}
+use lib.Dec.{T}
+use lib.IntN.{pos}
 use lib.Pow.{pow-mono, pow-add}
-use lib.Count.{leadingZeros, leading-top, trailingZeros}
-use lib.ListN.{getD}
-use lib.Ieee.{fin, binary32, odd, minus, ofBits, ofInt, nanBits}
-use borrow.Author.Tests.{leb-true, leb-false, le-leb, lt-leb, ne-eqb}
+use lib.Count.{leadingZeros, leading-top}
+use lib.Ieee.{binary32, ofBits, ofInt, nanBits}
 use Rattle.rules.specs.Sums.{wholeF32}
-use Rattle.rules.specs.Root.{capS, scaled, NearestRoot, nearRoot, rootOf}
-use Rattle.rules.proofs.Roots.{suc-sq, Near, near-is, Scaled, nearest, root-is}
-use Rattle.suppression.proofs.Bits.{low-bits}
+use Rattle.rules.specs.Root.{capS, NearestRoot, nearRoot, rootOf}
+use Rattle.rules.proofs.Patterns.{pattern, pattern-ok, pattern-is}
+use Rattle.rules.proofs.Roots.{suc-sq, near-is, Scaled, nearest, root-is}
 
 -- ---- the two loops
 
@@ -28,15 +26,15 @@ more-fits m t h u l =
     let no : 2 ^ 24 - 1 ≤ m → ⊥ = λ k. lt-irrefl t (omega (arith, mul-le-mul k k)) in
     omega arith
 
--- too high, so not 0
-pub some : (m t : ℕ) → 0 < t → t + m ≤ m * m → 0 < m
-some zero t h l = absurd (omega arith)
-some (suc m) t h l = omega arith
+-- a number with a square above 0
+pub some : (m n : ℕ) → n ≤ m * m → 0 < n → 0 < m
+some zero n l h = absurd (omega arith)
+some (suc m) n l h = omega arith
 
--- and one less is not too low
+-- too high, so one less is not too low
 pub less-reaches : (m t : ℕ) → 0 < t → t + m ≤ m * m → t ≤ (m - 1) * (m - 1) + (m - 1)
 less-reaches m t h l =
-    let p = some m t h l in
+    let p = some m (t + m) l (omega arith) in
     let e : m - 1 + 1 ≡ m = omega arith in
     omega (arith, ap (λ (x : ℕ). x * x) e, suc-sq (m - 1))
 
@@ -86,42 +84,6 @@ shift-is s p h =
     let e : 31 - leadingZeros 32 s ≡ t .0 = omega (arith, t .1) in
     (omega (arith, t .1), rw e (by-top s (t .0) (t .2) (t .3) h))
 
--- ---- the f32 whose bits are k's exponent and m's digits
-
--- an odd form does not depend on the unit that it is counted in
-minus-case : (b : Bool) (l k t : ℕ) → k ≤ l → leb k t ≡ b → minus (l - k + t) l ≡ cond b (pos (t - k)) (negsuc (k - suc t))
-minus-case true l k t h e =
-    let g : k ≤ t = leb-true k t e in
-    let a : l ≤ l - k + t = omega arith in
-    let d : l - k + t - l ≡ t - k = omega arith in
-    rw (le-leb l (l - k + t) a, d)
-minus-case false l k t h e =
-    let g : t < k = leb-false k t e in
-    let a : l - k + t < l = omega arith in
-    let d : l - suc (l - k + t) ≡ k - suc t = omega arith in
-    rw (lt-leb l (l - k + t) a, d)
-
-odd-unit : (d : ℕ) (s : Bool) (q l k : ℕ) → k ≤ l → odd d s q (l - k) l ≡ odd d s q 0 k
-unfolding odd
-odd-unit d s zero l k h = refl
-odd-unit d s (suc q) l k h =
-    let t = trailingZeros d (suc q) in
-    ap (fin s (suc q / 2 ^ t)) (minus-case _ l k t h refl ∙ ap (λ (x : ℕ). minus x k) (sym (zero-add t)))
-
--- the bits that the code makes
-abbrev pub pattern : ℕ → ℕ → ℕ
-pattern k m = (150 - k) * 8388608 + (m - 8388608)
-
-pattern-is : (k m : ℕ) → k ≤ 23 → 2 ^ 23 ≤ m → m ≤ 2 ^ 24 - 1 → ofBits binary32 (pattern k m) ≡ scaled m k
-unfolding ofBits
-pattern-is k m h l u =
-    let g : pattern k m < 2147483648 = omega arith in
-    let field : pattern k m % 2147483648 / 8388608 ≡ suc (149 - k) = omega arith in
-    let digits : pattern k m % 8388608 ≡ m - 8388608 = omega arith in
-    let n : suc (149 - k) ≡ 255 → ⊥ = λ e. omega arith in
-    let s : 8388608 + (m - 8388608) ≡ m = omega arith in
-    rw (lt-leb 2147483648 (pattern k m) g, field, digits, ne-eqb (suc (149 - k)) 255 n, s) (odd-unit 24 false m 149 k (omega arith))
-
 -- ---- the code's way: t is s times the table's power of four, m what the loops leave
 
 module _ (s f : ℕ) (p : 0 < s) (h : s < capS) (e : f ≡ 4 ^ (shift s - 16 + 16)) where
@@ -141,11 +103,11 @@ module _ (s f : ℕ) (p : 0 < s) (h : s < capS) (e : f ≡ 4 ^ (shift s - 16 + 1
     pub found : NearestRoot s m (shift s)
     found = nearest s m (shift s) (scale .scales) (rw (q, times) (near-is (s * 4 ^ shift s) (omega (arith, scale .scales .low)) (omega (arith, scale .scales .high))))
 
-    pub bits-fine : T (not (nanBits binary32 (pattern (shift s) m)))
-    bits-fine = low-bits (pattern (shift s) m) (omega (arith, found .least, found .most))
+    pub bits-fine : T (not (nanBits binary32 (pattern m (shift s))))
+    bits-fine = pattern-ok m (shift s) (scale .most) (found .least) (omega (arith, found .most))
 
-    pub bits-are : ofBits binary32 (pattern (shift s) m) ≡ rootOf s
-    bits-are = pattern-is (shift s) m (scale .most) (found .least) (found .most) ∙ root-is s h m (shift s) p found
+    pub bits-are : ofBits binary32 (pattern m (shift s)) ≡ rootOf s
+    bits-are = pattern-is m (shift s) (scale .most) (found .least) (omega (arith, found .most)) ∙ root-is s h m (shift s) p found
 
 -- 255 as the code writes it
 pub cap-is : ofBits binary32 0x437f_0000 ≡ wholeF32 (pos 255)

@@ -1,10 +1,10 @@
 -- Neighbours: the two of 01's table lie opposite, a step before a pixel and a step after it, so that suppression may go along a row.
 -- Assumes nothing.
-use mathlib.Core.Path.{_≡_, refl, sym, ap, ap₂, _∙_}
-use mathlib.Core.Bool.{Bool, true, false, cond, _&&_}
+use mathlib.Core.Path.{_≡_, refl, sym, ap, _∙_}
+use mathlib.Core.Bool.{Bool, true, false, cond, _&&_, and-true, and-false}
 use mathlib.Core.List.{List}
-use Prim.Native.Nat.{ℕ, zero, suc, _+_, _-_, _*_, _<_, _≤_}
-use native.Mathlib.Nat.{add-mul, add-zero, mul-zero, mul-one, zero-add}
+use Prim.Native.Nat.{ℕ, _+_, _-_, _*_, _<_, _≤_}
+use native.Mathlib.Nat.{add-mul, add-zero, mul-zero, mul-one}
 use native.Mathlib.Omega.{arith}
 use lib.Dec.{ltb, eqb}
 use lib.ListN.{getD}
@@ -14,7 +14,7 @@ use borrow.Author.Tests.{ltb-true, lt-ltb, le-ltb, ne-eqb}
 use Rattle.rules.specs.Picture.{filled, cleared}
 use Rattle.rules.specs.Sums.{plusZero}
 use Rattle.rules.specs.Sector.{Offset, offset, sectorOf, neighbours}
-use Rattle.rules.specs.Suppression.{inner, beside, keeps, suppressedAt}
+use Rattle.rules.specs.Suppression.{inner, keeps, suppressedAt}
 use Rattle.rules.specs.declared.Size.{Size}
 use Rattle.rules.proofs.Bools.{both}
 use Rattle.rules.proofs.Fill.{recount}
@@ -30,14 +30,6 @@ back n h = ap natAbs (diff n 1 h)
 -- the row before, and the row after
 row-before : (y w : ℕ) → 0 < y → (y - 1) * w + w ≡ y * w
 row-before y w h = let e : y - 1 + 1 ≡ y = omega arith in omega (arith, ap (λ (n : ℕ). n * w) e, add-mul (y - 1) 1 w)
-
-and-true : (b : Bool) → (b && true) ≡ b
-and-true true = refl
-and-true false = refl
-
-and-false : (b : Bool) → (b && false) ≡ false
-and-false true = refl
-and-false false = refl
 
 -- ---- the table's rows
 

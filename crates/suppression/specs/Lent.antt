@@ -1,13 +1,12 @@
 -- What the private functions are lent and give back: the sizes that keep every index and every product inside.
 use Prim.Native.Nat.{ℕ, _+_, _-_, _*_, _^_, _<_, _≤_}
 use mathlib.Core.Path.{_≡_}
-use mathlib.Core.List.{List, [], _∷_}
+use mathlib.Core.List.{List}
 use lib.ListN.{length}
 use lib.IntN.{ℤ, natAbs}
 use lib.Ieee.{Float}
 use Rattle.rules.specs.Limits.{maxSide}
 use Rattle.rules.specs.Picture.{area}
-use Rattle.rules.specs.Refusals.{Rule, sideRow, inputRow}
 use Rattle.rules.specs.declared.Size.{Size}
 use Rattle.suppression.specs.Steps.{stepOf}
 
@@ -21,10 +20,6 @@ pub record Target (t g : ℕ) : Type 0 where
   pub low : 2 ^ 46 ≤ t
   pub high : t ≤ 2 ^ 48 - 2 ^ 32
   pub most : g < 2 ^ 24
-
--- the rows that both calls begin with
-abbrev pub componentRows : Size → List ℤ → List ℤ → List Rule
-componentRows d gx gy = sideRow d ∷ inputRow d gx ∷ inputRow d gy ∷ []
 
 -- the magnitudes and the components of one picture
 pub record Pictures (d : Size) (magnitude : List Float) (gx gy : List ℤ) : Type 0 where

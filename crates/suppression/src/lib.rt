@@ -1,13 +1,13 @@
 // Canny's gradient stages: the magnitude of a gradient, its sector, and non-maximum suppression. Each public call refuses by number
 // or runs by document 01's rules.
 use rules::ACCEPTED;
-use rules::MAX_SIDE;
 use rules::REFUSED_INPUT;
 use rules::REFUSED_ROOM;
 use rules::REFUSED_SIDE;
 use rules::Size;
+use rules::table::side_over;
 ghost use mathlib.Core.Path.{_≡_};
-ghost use Prim.Native.Nat.{ℕ, _+_, _*_, _^_, _<_, _≤_};
+ghost use Prim.Native.Nat.{_+_, _*_, _^_, _<_, _≤_};
 ghost use lib.ListN.{length, drop};
 ghost use Rattle.rules.specs.Limits.{maxSide};
 ghost use Rattle.rules.specs.Picture.{area, cleared, filled};
@@ -16,9 +16,9 @@ ghost use Rattle.rules.specs.Gradient.{energy};
 ghost use Rattle.rules.specs.Root.{capS, nearRoot, rootOf, magnitudeOf};
 ghost use Rattle.rules.specs.Sector.{sectorOf};
 ghost use Rattle.rules.specs.Suppression.{suppressedAt};
-ghost use Rattle.rules.specs.Refusals.{first};
+ghost use Rattle.rules.specs.Refusals.{first, magnitudeRows, suppressionRows};
 ghost use Rattle.rules.specs.Calls.{magnitudeAt, painted, gradientMagnitude, nonMaximumSuppression};
-ghost use Rattle.suppression.specs.Lent.{SizeOf, Target, StepIs, componentRows, Inside, InnerRow, AnyRow, Pictures};
+ghost use Rattle.suppression.specs.Lent.{SizeOf, Target, StepIs, Inside, InnerRow, AnyRow, Pictures};
 ghost use Rattle.suppression.specs.Steps.{keptAt, rowAt};
 
 // ---- components
@@ -76,6 +76,7 @@ const FOURS: [u64; 8] = [
     70368744177664,
 ];
 
+// 4^(i + 16).
 fn four_of(i: usize) -> u64
     requires { ⌜ i < 8 ⌝ }
     ensures { λ r. ⌜ r ≡ 4 ^ (i + 16) ⌝ }
@@ -83,7 +84,7 @@ fn four_of(i: usize) -> u64
     FOURS[i]
 }
 
-// A float within 4 in 100 of the root of f, from its bits.
+// A float within 5 in 100 of the root of f, from its bits.
 fn first_guess(f: f32) -> f32 {
     if f > 0.0 {
         return f32::from_bits(f32::to_bits(f) / 2 % 1073741824 + 532487669);
@@ -91,8 +92,8 @@ fn first_guess(f: f32) -> f32 {
     1.0
 }
 
-// The f32 nearest the root of every s below the cap, as a run over all of them shows, though no proof leans on it: two of Heron's steps,
-// and a third from the rest of the square, worked out in two halves of the digits since one f32 cannot hold it.
+// Tried on every s below the cap, this is the nearest f32 itself, so that mending finds nothing to do; no proof leans on it. Two of
+// Heron's steps, and a third from the rest of the square, worked out in two halves of the digits since one f32 cannot hold it.
 fn guess(s: u32) -> f32 {
     let c = if s < CAP { s as u16 } else { 0 };
     let f = c as f32;
@@ -142,6 +143,7 @@ fn root_from(s: u32, y: f32) -> f32
     f32::from_bits((150 - k) * 8388608 + ((m - 8388608) as u32))
 }
 
+// The magnitude of s, from any guess.
 fn magnitude_from(s: u32, y: f32) -> f32
     ensures { λ r. ⌜ r ≡ magnitudeOf s ⌝ }
 {
@@ -163,14 +165,11 @@ pub fn magnitude_of(s: u32) -> f32
 
 // ---- the calls
 
-// Rows 1 and 2 of the refusals, for the two components.
-fn components_refusal(gx: &[i16], gy: &[i16], size: Size) -> u8
-    ensures { λ r. ⌜ r ≡ first (componentRows size (now (gx .entry)) (now (gy .entry))) ⌝ }
+// The rows of 01's table that each call has, in ascending order.
+fn of_magnitude(gx: &[i16], gy: &[i16], size: Size, magnitude: &[f32]) -> u8
+    ensures { λ r. ⌜ r ≡ first (magnitudeRows size (now (gx .entry)) (now (gy .entry)) (now (magnitude .entry))) ⌝ }
 {
-    if MAX_SIDE < size.width {
-        return REFUSED_SIDE;
-    }
-    if MAX_SIDE < size.height {
+    if side_over(size) {
         return REFUSED_SIDE;
     }
     let n = size.width * size.height;
@@ -179,6 +178,31 @@ fn components_refusal(gx: &[i16], gy: &[i16], size: Size) -> u8
     }
     if gy.len() != n {
         return REFUSED_INPUT;
+    }
+    if magnitude.len() < n {
+        return REFUSED_ROOM;
+    }
+    ACCEPTED
+}
+
+fn of_suppression(magnitude: &[f32], gx: &[i16], gy: &[i16], size: Size, out: &[f32]) -> u8
+    ensures { λ r. ⌜ r ≡ first (suppressionRows size (now (magnitude .entry)) (now (gx .entry)) (now (gy .entry)) (now (out .entry))) ⌝ }
+{
+    if side_over(size) {
+        return REFUSED_SIDE;
+    }
+    let n = size.width * size.height;
+    if magnitude.len() != n {
+        return REFUSED_INPUT;
+    }
+    if gx.len() != n {
+        return REFUSED_INPUT;
+    }
+    if gy.len() != n {
+        return REFUSED_INPUT;
+    }
+    if out.len() < n {
+        return REFUSED_ROOM;
     }
     ACCEPTED
 }
@@ -214,14 +238,11 @@ pub fn gradient_magnitude(gx: &[i16], gy: &[i16], size: Size, magnitude: &mut [f
         ≡ gradientMagnitude size (now (gx .entry)) (now (gy .entry)) (now (magnitude .entry))
         ⌝ }
 {
-    let refusal = components_refusal(gx, gy, size);
+    let refusal = of_magnitude(gx, gy, size, magnitude);
     if refusal != ACCEPTED {
         return refusal;
     }
     let n = size.width * size.height;
-    if magnitude.len() < n {
-        return REFUSED_ROOM;
-    }
     guesses(gx, gy, n, magnitude);
     magnitudes(gx, gy, n, magnitude);
     ACCEPTED
@@ -241,7 +262,7 @@ fn neighbour_step(sector: u8, width: usize) -> usize
     }
 }
 
-// What stands at inner pixel i afterwards.
+// What stands at inner pixel i afterwards: its magnitude, if it is at least both neighbours'.
 fn suppressed(magnitude: &[f32], gx: &[i16], gy: &[i16], width: usize, i: usize) -> f32
     requires { ⌜ Inside width (now magnitude) (now gx) (now gy) i ⌝ }
     ensures { λ r. ⌜ r ≡ keptAt width (now (magnitude .entry)) (now (gx .entry)) (now (gy .entry)) i ⌝ }
@@ -256,6 +277,7 @@ fn suppressed(magnitude: &[f32], gx: &[i16], gy: &[i16], width: usize, i: usize)
     0.0
 }
 
+// All of it +0.
 fn clear(out: &mut [f32])
     ensures { λ _. ⌜ now (out .exit) ≡ cleared (length (now (out .entry))) plusZero (now (out .entry)) ⌝ }
 {
@@ -312,6 +334,7 @@ fn suppress_any(
     suppress_row(magnitude, gx, gy, start, out);
 }
 
+// The whole picture, row by row.
 fn suppress(magnitude: &[f32], gx: &[i16], gy: &[i16], size: Size, out: &mut [f32])
     requires { ⌜ Pictures size (now magnitude) (now gx) (now gy) × (area size ≤ length (now out)) ⌝ }
     ensures { λ _. ⌜ now (out .exit) ≡ painted size (suppressedAt size (now (magnitude .entry)) (now (gx .entry)) (now (gy .entry))) (now (out .entry)) ⌝ }
@@ -340,16 +363,9 @@ pub fn non_maximum_suppression(
         ≡ nonMaximumSuppression size (now (magnitude .entry)) (now (gx .entry)) (now (gy .entry)) (now (out .entry))
         ⌝ }
 {
-    let refusal = components_refusal(gx, gy, size);
+    let refusal = of_suppression(magnitude, gx, gy, size, out);
     if refusal != ACCEPTED {
         return refusal;
-    }
-    let n = size.width * size.height;
-    if magnitude.len() != n {
-        return REFUSED_INPUT;
-    }
-    if out.len() < n {
-        return REFUSED_ROOM;
     }
     suppress(magnitude, gx, gy, size, out);
     ACCEPTED

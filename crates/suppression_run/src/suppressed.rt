@@ -9,6 +9,14 @@ pub(crate) fn run() {
     lines::number(b"removers in sector 45", removers(5, 5), 68);
     lines::number(b"removers in sector 90", removers(0, 5), 130);
     lines::number(b"removers in sector 135", removers(5, -5), 257);
+    nans();
+    zeros();
+    equals();
+    outer();
+    narrow();
+}
+
+fn nans() {
     lines::float(
         b"NaN at the pixel",
         centre(lines::nan(), 1.0, 1.0, 1.0),
@@ -29,6 +37,9 @@ pub(crate) fn run() {
         centre(5.0, 1.0, 1.0, lines::nan()),
         0x40a00000,
     );
+}
+
+fn zeros() {
     lines::float(
         b"minus zero beside zeros",
         centre(-0.0, 0.0, 0.0, 0.0),
@@ -44,6 +55,9 @@ pub(crate) fn run() {
         centre(-0.0, 1.0, 0.0, 0.0),
         0x00000000,
     );
+}
+
+fn equals() {
     lines::float(b"equal neighbours", centre(5.0, 5.0, 5.0, 0.0), 0x40a00000);
     lines::float(
         b"infinity beside infinity",
@@ -70,8 +84,6 @@ pub(crate) fn run() {
         ),
         0x437f0000,
     );
-    outer();
-    narrow();
 }
 
 // What becomes of the middle of three by three in sector 0, with its left and right neighbours and the one above.

@@ -1,24 +1,24 @@
 -- `clear` meets its contract: a filling loop. Assumes nothing.
-use borrow.Author.Needs.{needs, zero≤}
+use borrow.Author.Needs.{needs}
 use native.Mathlib.Omega.{arith}
-use Prim.Native.Nat.{_-_, _<_, _≤_}
-use mathlib.Core.Path.{_≡_, refl}
+use native.Mathlib.Nat.{le-refl}
+use Prim.Native.Nat.{_-_, _<_}
+use mathlib.Core.Path.{refl}
 use denote.Ref.{now}
-use lib.ListN.{length, length-set}
-use Rattle.rules.specs.Picture.{cleared}
+use lib.ListN.{length}
 use Rattle.rules.specs.Sums.{plusZero}
-use Rattle.rules.proofs.Fill.{fill-start, fill-more}
+use Rattle.rules.proofs.Fill.{Filling, filling-start, filling-more, filling-end}
 use Rattle.suppression.proofs.clear.Statement.{statement}
 use Rattle.suppression.proofs.clear.Tie as tie
 
 abbrev Inv-loop : tie.InvT-loop
-Inv-loop out₀ x₀ out x = (x ≤ length out₀) × (length out ≡ length out₀) × (out ≡ cleared x plusZero out₀)
+Inv-loop out₀ x₀ out x = Filling (length out₀) x (λ i. plusZero) out₀ out
 
 abbrev μ-loop : tie.MeasureT-loop
 μ-loop out₀ x₀ out x = length out₀ - x
 
 loop-holds : tie.Need-loop-holds Inv-loop μ-loop
-loop-holds c = (zero≤, refl, fill-start (λ i. plusZero) (now (c .args .out)))
+loop-holds c = filling-start _ (λ i. plusZero) (now (c .args .out))
 
 mul-out : tie.Need-mul-out Inv-loop μ-loop
 mul-out c = search needs
@@ -34,18 +34,19 @@ loop-less c = search needs
 
 loop-again : tie.Need-loop-again Inv-loop μ-loop
 loop-again c =
-    let a = c .before .before .args in
     let l = c .before .loop in
-    let h : l .x < length (now (a .out)) = omega arith in
-    (search needs, simp length-set (l .inv .1), fill-more (l .x) (λ i. plusZero) (now (a .out)) (l .out) _ h (l .inv .2) refl)
+    let o = now (c .before .before .args .out) in
+    let h : l .x < length o = omega arith in
+    filling-more (length o) (l .x) (λ i. plusZero) o (l .out) _ (le-refl (length o)) h (l .inv) refl
 
 same-length : tie.Need-same-length Inv-loop μ-loop
 same-length c = search needs
 
 returns : tie.Need-returns Inv-loop μ-loop
 returns c =
-    let e : c .before .loop .x ≡ length (now (c .before .before .args .out)) = omega arith in
-    rw e at (c .before .loop .inv .2)
+    let l = c .before .loop in
+    let o = now (c .before .before .args .out) in
+    filling-end (length o) (l .x) (λ i. plusZero) o (l .out) (l .inv) (omega arith)
 
 pub clear-spec : {M : Type 1} → statement M
 clear-spec =

@@ -1,6 +1,5 @@
 -- `guesses` writes nothing past its n entries. Assumes nothing.
 use borrow.Author.Needs.{needs, zero≤}
-use native.Mathlib.Omega.{arith}
 use Prim.Native.Nat.{_-_, _≤_}
 use mathlib.Core.Path.{_≡_, refl, _∙_}
 use lib.ListN.{length, drop, length-set}

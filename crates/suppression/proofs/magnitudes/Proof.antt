@@ -1,28 +1,25 @@
 -- `magnitudes` meets its contract: a filling loop. Assumes nothing.
-use borrow.Author.Needs.{needs, zero≤, sfits-of}
-use native.Mathlib.Omega.{arith}
-use Prim.Native.Nat.{_-_, _<_, _≤_}
-use mathlib.Core.Path.{_≡_, refl}
+use borrow.Author.Needs.{needs, sfits-of}
+use Prim.Native.Nat.{_-_}
 use denote.Ref.{now}
 use lib.IntN.{pos}
-use lib.ListN.{length, getD, length-set}
+use lib.ListN.{getD}
 use mir.Syntax.{w16}
 use mir.ValLaws.{toZ-ofZ}
-use Rattle.rules.specs.Picture.{filled}
 use Rattle.rules.specs.Calls.{magnitudeAt}
-use Rattle.rules.proofs.Fill.{fill-start, fill-more}
+use Rattle.rules.proofs.Fill.{Filling, filling-start, filling-more, filling-end}
 use Rattle.suppression.proofs.Components.{magnitude-at}
 use Rattle.suppression.proofs.magnitudes.Statement.{statement}
 use Rattle.suppression.proofs.magnitudes.Tie as tie
 
 abbrev Inv-loop : tie.InvT-loop
-Inv-loop gx gy n magnitude₀ i₀ magnitude i = (i ≤ n) × (length magnitude ≡ length magnitude₀) × (magnitude ≡ filled i (magnitudeAt gx gy) magnitude₀)
+Inv-loop gx gy n magnitude₀ i₀ magnitude i = Filling n i (magnitudeAt gx gy) magnitude₀ magnitude
 
 abbrev μ-loop : tie.MeasureT-loop
 μ-loop gx gy n magnitude₀ i₀ magnitude i = n - i
 
 loop-holds : tie.Need-loop-holds Inv-loop μ-loop
-loop-holds c = let a = c .before .args in (zero≤, refl, fill-start (magnitudeAt (now (a .gx)) (now (a .gy))) (now (a .magnitude)))
+loop-holds c = let a = c .before .args in filling-start (a .n) (magnitudeAt (now (a .gx)) (now (a .gy))) (now (a .magnitude))
 
 mul-energy : tie.Need-mul-energy Inv-loop μ-loop
 mul-energy c = search needs
@@ -64,23 +61,21 @@ loop-again : tie.Need-loop-again Inv-loop μ-loop
 loop-again c =
     let e = c .before .before .before .before in
     let l = e .before .before .loop in
-    let a = e .before .before .before .before .args in
-    let h : l .i < length (now (a .magnitude)) = omega arith in
+    let s = e .before .before .before .before in
+    let a = s .args in
     let x = toZ-ofZ w16 (getD (now (a .gx)) (l .i) (pos 0)) (sfits-of (e .energy-arg .given)) in
-    let y = toZ-ofZ w16 (getD (now (a .gy)) (l .i) (pos 0)) (sfits-of (c .before .before .before .energy-arg2 .given)) in (
-      search needs,
-      simp length-set (l .inv .1),
-      fill-more (l .i) (magnitudeAt (now (a .gx)) (now (a .gy))) (now (a .magnitude)) (l .magnitude) _ h (l .inv .2)
-          (magnitude-at (now (a .gx)) (now (a .gy)) (l .i) _ _ (rw (x, y) at (c .before .before .energy .ensures)) (c .magnitude-from .ensures)),
-    )
+    let y = toZ-ofZ w16 (getD (now (a .gy)) (l .i) (pos 0)) (sfits-of (c .before .before .before .energy-arg2 .given)) in
+    filling-more (a .n) (l .i) (magnitudeAt (now (a .gx)) (now (a .gy))) (now (a .magnitude)) (l .magnitude) _ (s .pre .2) (e .before .loop-test .taken) (l .inv)
+    (magnitude-at (now (a .gx)) (now (a .gy)) (l .i) _ _ (rw (x, y) at (c .before .before .energy .ensures)) (c .magnitude-from .ensures))
 
 same-length : tie.Need-same-length Inv-loop μ-loop
 same-length c = search needs
 
 returns : tie.Need-returns Inv-loop μ-loop
 returns c =
-    let e : c .before .loop .i ≡ c .before .before .before .args .n = omega arith in
-    rw e at (c .before .loop .inv .2)
+    let l = c .before .loop in
+    let a = c .before .before .before .args in
+    filling-end (a .n) (l .i) (magnitudeAt (now (a .gx)) (now (a .gy))) (now (a .magnitude)) (l .magnitude) (l .inv) (c .loop-test .left)
 
 pub magnitudes-spec : {M : Type 1} → statement M
 magnitudes-spec =

@@ -1,15 +1,14 @@
 -- `suppress` meets its contract: a picture filled row by row. Assumes nothing.
-use borrow.Author.Needs.{needs, zero≤}
+use borrow.Author.Needs.{needs}
 use native.Mathlib.Omega.{arith}
 use native.Mathlib.Nat.{add-mul, zero-mul, mul-comm}
 use Prim.Native.Nat.{ℕ, _+_, _-_, _*_, _≤_}
-use mathlib.Core.Path.{_≡_, refl, sym, ap, _∙_}
+use mathlib.Core.Path.{_≡_, refl, sym, ap}
 use denote.Ref.{now}
-use lib.ListN.{length}
 use lib.Ieee.{Float}
-use Rattle.rules.specs.Picture.{area, byPixel, filled}
+use Rattle.rules.specs.Picture.{area, byPixel}
 use Rattle.rules.specs.Suppression.{suppressedAt}
-use Rattle.rules.proofs.Fill.{fill-start, fill-part}
+use Rattle.rules.proofs.Fill.{Filling, filling-start, filling-part, filling-end}
 use Rattle.rules.proofs.Grid.{row-in, part-length, row-of, column-of}
 use Rattle.suppression.proofs.suppress.Statement.{statement}
 use Rattle.suppression.proofs.suppress.Tie as tie
@@ -18,8 +17,7 @@ abbrev Inv-loop : tie.InvT-loop
 Inv-loop magnitude gx gy size out₀ width y₀ start₀ out y start =
     (y ≤ size .height)
     × (start ≡ y * size .width)
-    × (length out ≡ length out₀)
-    × (out ≡ filled start (byPixel size (suppressedAt size magnitude gx gy)) out₀)
+    × Filling (area size) start (byPixel size (suppressedAt size magnitude gx gy)) out₀ out
 
 abbrev μ-loop : tie.MeasureT-loop
 μ-loop magnitude gx gy size out₀ width y₀ start₀ out y start = size .height - y
@@ -29,9 +27,7 @@ abbrev pixels : tie.Start Inv-loop μ-loop → ℕ → Float
 pixels s = let a = s .args in byPixel (a .size) (suppressedAt (a .size) (now (a .magnitude)) (now (a .gx)) (now (a .gy)))
 
 loop-holds : tie.Need-loop-holds Inv-loop μ-loop
-loop-holds c =
-    let s = c .before .before in
-    (zero≤, sym (zero-mul _), refl, fill-start (pixels s) (now (s .args .out)))
+loop-holds c = let s = c .before .before in (search needs, sym (zero-mul _), filling-start (area (s .args .size)) (pixels s) (now (s .args .out)))
 
 -- a row ends within the picture
 ends : (c : tie.Then1 Inv-loop μ-loop) → let d = c .before .before .before .before .before .args .size in c .before .before .loop .start + d .width ≤ area d
@@ -77,14 +73,12 @@ loop-again c =
     let d = c .before .before .before .before in
     let s = d .before .before .before .before .before in
     let l = d .before .before .loop in
-    let w = s .args .size .width in
-    let k : l .start + w - l .start ≡ w = omega arith in
-    let h = ends d in (
+    let a = s .args in
+    let w = a .size .width in (
       search needs,
       omega (arith, l .inv .1, add-mul (l .y) 1 w),
-      search needs,
-      rw k (fill-part (l .start) w (pixels s) (λ x. suppressedAt (s .args .size) (now (s .args .magnitude)) (now (s .args .gx)) (now (s .args .gy)) x (l .y)) (now (s .args .out)) (l .out) _
-          (omega (arith, s .pre)) (l .inv .3) (rw k at (c .before .before .suppress-any .ensures)) (λ x p. rw (l .inv .1, column-of (l .y) p, row-of (l .y) p))),
+      filling-part (area (a .size)) (l .start) w (pixels s) (λ x. suppressedAt (a .size) (now (a .magnitude)) (now (a .gx)) (now (a .gy)) x (l .y)) (now (a .out)) (l .out) _
+          (s .pre .1) (ends d) (l .inv .2) (c .before .before .suppress-any .ensures) (λ x p. rw (l .inv .1, column-of (l .y) p, row-of (l .y) p)),
     )
 
 same-length : tie.Need-same-length Inv-loop μ-loop
@@ -92,10 +86,12 @@ same-length c = search needs
 
 returns : tie.Need-returns Inv-loop μ-loop
 returns c =
-    let d = c .before .before .before .before .before .args .size in
+    let s = c .before .before .before .before .before in
+    let d = s .args .size in
     let l = c .before .before .loop in
     let e : l .y ≡ d .height = omega arith in
-    rw (l .inv .1 ∙ ap (λ (n : ℕ). n * d .width) e ∙ mul-comm (d .height) (d .width)) at (l .inv .3)
+    filling-end (area d) (l .start) (pixels s) (now (s .args .out)) (l .out) (l .inv .2)
+    (omega (arith, l .inv .1, ap (λ (n : ℕ). n * d .width) e, mul-comm (d .height) (d .width)))
 
 pub suppress-spec : {M : Type 1} → statement M
 suppress-spec =

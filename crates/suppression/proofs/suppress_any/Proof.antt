@@ -1,6 +1,5 @@
 -- `suppress_any` meets its contract: outer rows and narrow pictures have no inner pixel. Assumes nothing.
 use native.Mathlib.Omega.{arith}
-use denote.Ref.{now}
 use borrow.Author.Needs.{needs}
 use Rattle.suppression.proofs.Neighbours.{outer-row, inner-row, has-rows}
 use Rattle.suppression.proofs.suppress_any.Statement.{statement}

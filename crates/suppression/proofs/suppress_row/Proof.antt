@@ -1,8 +1,8 @@
 -- `suppress_row` meets its contract: a filling loop between two single stores. Assumes nothing.
-use borrow.Author.Needs.{needs, zero≤}
+use borrow.Author.Needs.{needs}
 use native.Mathlib.Omega.{arith}
-use Prim.Native.Nat.{ℕ, _+_, _-_, _<_, _≤_}
-use mathlib.Core.Path.{_≡_, refl, _∙_}
+use Prim.Native.Nat.{ℕ, _+_, _-_, _<_}
+use mathlib.Core.Path.{_≡_, refl}
 use denote.Ref.{now}
 use lib.ListN.{length, set, length-set}
 use lib.Ieee.{Float}

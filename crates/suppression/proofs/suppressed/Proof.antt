@@ -1,7 +1,6 @@
 -- `suppressed` meets its contract, by the sector's step and one test. Assumes nothing.
 use borrow.Author.Needs.{needs, sfits-of}
 use native.Mathlib.Omega.{arith}
-use Prim.Native.Nat.{ℕ}
 use mathlib.Core.Path.{_≡_}
 use mathlib.Core.Bool.{true, false}
 use denote.Ref.{now}
