@@ -4,11 +4,11 @@ use mathlib.Core.Path.{_≡_, refl}
 use mathlib.Core.List.{List, [], _∷_, map}
 use mathlib.Core.Option.{Option, some, none}
 use lib.IntN.{ℤ, pos, negsuc}
-use lib.Ieee.{Float, nan, inf, fin, up, down, add, mul, ofInt, ofBits, odd, le}
+use lib.Ieee.{Float, nan, inf, fin, up, down, binary32, add, mul, ofInt, ofBits, odd, le}
 use Rattle.rules.specs.Picture.{inRowOrder, tabulate, anyBelow, tally}
 use Rattle.rules.specs.Border.{sampleAt}
 use Rattle.rules.specs.Sums.{wholeF32, orderedSum, toByte}
-use Rattle.rules.specs.Filters.{separableAt, kernelSum, kernelTerm}
+use Rattle.rules.specs.Filters.{convolvedAt, separableAt, kernelSum, kernelTerm}
 use Rattle.rules.specs.Root.{magnitudeOf, rootOf, nearRoot, wholeRoot, sobelByte, leastFrom}
 use Rattle.rules.specs.Sector.{sectorOf}
 use Rattle.rules.specs.Walk.{atLeast, started, classed, class, sliced, taken, pop, looks, visit, look}
@@ -89,3 +89,32 @@ starred =
 pub starred-hold : map (λ e. e .got) starred ≡ map (λ e. e .wanted) starred
 unfolding starred resolveCoord tabulate separableAt kernelSum kernelTerm sampleAt orderedSum toByte add mul ofInt ofBits magnitudeOf rootOf nearRoot wholeRoot odd sobelByte leastFrom sectorOf joinedCount told closed grown anyBelow tally le edgesOf endOf afterStart started classed class sliced taken pop looks visit look
 starred-hold = refl
+
+-- ---- slips that the starred list does not show (01.Slips.1, 01.Slips.3), computed too
+
+-- bytes of 1 under weights 1, -1e8, 1e8 as they are met: 1 is lost in the first sum, and 0 is left. From the other end it would be 1
+abbrev ordered : List ℕ
+ordered =
+    inRowOrder (record { width = 1; height = 1 })
+    (convolvedAt (record { width = 1; height = 1 }) (record { width = 3; height = 1 }) Clamp (1 ∷ []) (wholeF32 (pos 100000000) ∷ wholeF32 (negsuc 99999999) ∷ wholeF32 (pos 1) ∷ []))
+
+-- a byte of 1 under a tap of 1/2 across and of 3/4 down: 3/8 is 0. Rounded between the passes it would be 1
+abbrev unrounded : List ℕ
+unrounded =
+    inRowOrder (record { width = 1; height = 1 })
+    (separableAt (record { width = 1; height = 1 }) (record { horizontal = 1; vertical = 1 }) Clamp (1 ∷ []) (ofBits binary32 0x3f00_0000 ∷ []) (ofBits binary32 0x3f40_0000 ∷ []))
+
+-- the f32 just below 0.5, 0.5, 254.5, -0.5, an infinity and NaN
+abbrev rounded : List ℕ
+rounded = map (λ (b : ℕ). toByte (ofBits binary32 b)) (0x3eff_ffff ∷ 0x3f00_0000 ∷ 0x437e_8000 ∷ 0xbf00_0000 ∷ 0x7f80_0000 ∷ 0x7fc0_0000 ∷ [])
+
+unfoldable pub slips : List Example
+slips =
+    ex ordered (0 ∷ [])
+    ∷ ex unrounded (0 ∷ [])
+    ∷ ex rounded (0 ∷ 1 ∷ 255 ∷ 0 ∷ 255 ∷ 0 ∷ [])
+    ∷ []
+
+pub slips-hold : map (λ e. e .got) slips ≡ map (λ e. e .wanted) slips
+unfolding slips tabulate convolvedAt separableAt kernelSum kernelTerm sampleAt orderedSum toByte add mul ofInt ofBits
+slips-hold = refl
