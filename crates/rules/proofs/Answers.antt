@@ -10,3 +10,7 @@ module _ {A : Type 0} (number r : ℕ) (e : r ≡ number) (done kept : A) where
 
   pub accepted-is : (left : A) → r ≡ 0 → left ≡ done → (0, left) ≡ answered number done kept
   accepted-is left z p = rw (← e, z, p)
+
+-- what a call that is known to be accepted leaves
+pub left-is : {A : Type 0} (number r : ℕ) (done kept left : A) → number ≡ 0 → (r, left) ≡ answered number done kept → left ≡ done
+left-is {A} number r done kept left z e = ap (λ (p : ℕ × A). p .1) e ∙ rw z

@@ -131,6 +131,13 @@ module _ {A : Type 0} where
   pub drop-filled : (n : ℕ) (f : ℕ → A) (o l : List A) → l ≡ filled n f o → drop n l ≡ drop n o
   drop-filled n f o l p = ap (drop n) p ∙ drop-at (tabulate n f) (drop n o) n (length-tabulate n f)
 
+  pub take-filled : (n : ℕ) (f : ℕ → A) (o l : List A) → l ≡ filled n f o → take n l ≡ tabulate n f
+  take-filled n f o l p = ap (take n) p ∙ take-at (tabulate n f) (drop n o) n (length-tabulate n f)
+
+  -- the first n entries as the code lends them
+  pub first-part : (n : ℕ) (l : List A) → take (n - 0) (drop 0 l) ≡ take n l
+  first-part n l = let z : n - 0 ≡ n = omega arith in rw z
+
   -- ---- fillings in turn
 
   -- the same entries by another account

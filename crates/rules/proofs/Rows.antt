@@ -1,5 +1,5 @@
 -- Tables of refusals: a number 0 says that no row applies, and each row then gives its fact. Assumes nothing.
-use mathlib.Core.Path.{_≡_, refl, sym, _∙_}
+use mathlib.Core.Path.{_≡_, refl, sym, ap, _∙_}
 use mathlib.Core.Bool.{Bool, true, false, not, _&&_, cond, _||_}
 use mathlib.Core.List.{List, [], _∷_}
 use Prim.Native.Nat.{ℕ, _*_, _%_, _<_, _≤_}
@@ -10,7 +10,7 @@ use lib.ListN.{length, getD}
 use lib.Ieee.{Float, nan}
 use lib.Ieee.Fits.{and-l, and-r}
 use lib.Ieee.Scale.{finite}
-use borrow.Author.Tests.{ltb-false, eqb-true, eqb-false, not-false}
+use borrow.Author.Tests.{ltb-false, eqb-true, eqb-false, not-false, eq-eqb, le-ltb}
 use Rattle.rules.specs.Limits.{maxSide}
 use Rattle.rules.specs.Picture.{area, anyBelow}
 use Rattle.rules.specs.Refusals.{Rule, first, sideRow, inputRow, countRow, matchRow, weightRow, roomRow}
@@ -37,6 +37,11 @@ off [] t e = tt
 off (r ∷ rs) t e =
     let p = passed (r .applies) (r .number) (first rs) (ltb→lt 0 (r .number) (and-l (ltb 0 (r .number)) (numbered rs) t)) e in
     (p .0, off rs (and-r (ltb 0 (r .number)) (numbered rs) t) (p .1))
+
+-- and where no row applies the number is 0
+pub none : (rs : List Rule) → Off rs → first rs ≡ 0
+none [] o = refl
+none (r ∷ rs) o = rw (o .0) (none rs (o .1))
 
 -- ---- a table that the code goes down row by row
 
@@ -67,6 +72,13 @@ input-off d l e = eqb-true (length l) (area d) (not-false _ e)
 
 pub room-off : {A : Type 0} (d : Size) (l : List A) → roomRow d l .applies ≡ false → area d ≤ length l
 room-off d l e = ltb-false (length l) (area d) e
+
+-- and the facts that keep these two rows from applying
+pub input-fits : {A : Type 0} (d : Size) (l : List A) → length l ≡ area d → inputRow d l .applies ≡ false
+input-fits d l e = ap not (eq-eqb (length l) (area d) e)
+
+pub room-fits : {A : Type 0} (d : Size) (l : List A) → area d ≤ length l → roomRow d l .applies ≡ false
+room-fits d l h = le-ltb (length l) (area d) h
 
 pub record Odd (most n : ℕ) : Type 0 where
   pub some : 0 < n

@@ -1,0 +1,154 @@
+-- A walk to its end: the start, one slice and the map request are all accepted, and the map is the definition's, whatever the buffers held.
+-- Assumes nothing.
+use mathlib.Core.Path.{_≡_, refl, sym, ap, subst, _∙_}
+use mathlib.Core.Bool.{Bool, true, false, cond}
+use mathlib.Core.List.{List, [], _∷_}
+use Prim.Native.Nat.{ℕ, _+_, _-_, _<_, _≤_}
+use native.Mathlib.Omega.{arith}
+use lib.Dec.{T, eqb}
+use lib.ListN.{length, getD, take, drop}
+use lib.Ieee.{Float}
+use Rattle.rules.specs.Picture.{area, tabulate, zeros, filled}
+use Rattle.rules.specs.Walk.{State, state, has, sliced, takes, atLeast, edge, mapped}
+use Rattle.rules.specs.Refusals.{first, startRows, sliceRows, mapRows}
+use Rattle.rules.specs.Calls as Calls
+use Rattle.rules.specs.Calls.{walkOf, lent, afterStart, afterSlice, sliceTakes}
+use Rattle.rules.specs.Joined.{Tells, afterAll, Held, heldAtStart}
+use Rattle.rules.specs.Joined.Call.{slice}
+use Rattle.rules.specs.Run.{endOf, edgesOf}
+use Rattle.rules.specs.declared.Size.{Size}
+use Rattle.rules.specs.declared.Thresholds.{Thresholds}
+use Rattle.rules.specs.declared.Started.{Started}
+use Rattle.rules.specs.declared.Sliced.{Sliced}
+use Rattle.rules.specs.declared.Mapped.{Mapped}
+use Rattle.rules.proofs.Bools.{true-is, is-true, clash}
+use Rattle.rules.proofs.Fill.{length-tabulate, getD-tabulate, recount, first-part}
+use Rattle.rules.proofs.Rows.{off, none, room-fits}
+use Rattle.hysteresis.proofs.Demand.{demand-3, end-tells}
+use Rattle.hysteresis.proofs.Fits.{past-started, past-sliced}
+use Rattle.hysteresis.proofs.Numbers.{slice-fit}
+use Rattle.canny.specs.Lent.{Walkable, Walked}
+
+-- two tests that tell the same pixels agree on each
+agree : (a b : Bool) → (T a → T b) → (T b → T a) → a ≡ b
+agree true true p q = refl
+agree true false p q = absurd (p tt)
+agree false true p q = absurd (q tt)
+agree false false p q = refl
+
+module _ (d : Size) (t : Thresholds) (magnitudes : List Float) (marks stack : List ℕ) (e : first (startRows d t magnitudes marks stack) ≡ 0) where
+  abbrev begun : State
+  begun = afterStart d t magnitudes marks stack
+
+  abbrev ended : State
+  ended = sliced d (area d + 1) begun
+
+  start-is : Calls.start d t magnitudes marks stack ≡ (record { refusal = 0; walk = walkOf d (begun .pending) }, lent begun)
+  unfolding Calls.start
+  start-is = rw e
+
+  -- what a caller holds at the start and at the end
+  heldAt : State → Held
+  heldAt s = record { walk = walkOf d (s .pending); marks = s .marks; stack = s .stack }
+
+  held-begun : heldAtStart d t magnitudes marks stack ≡ heldAt begun
+  unfolding heldAt
+  held-begun = ap (λ (a : Started × (List ℕ × List ℕ)). record { walk = a .0 .walk; marks = a .1 .0; stack = a .1 .1 }) start-is
+
+  refusal-is : Calls.start d t magnitudes marks stack .0 .refusal ≡ 0
+  refusal-is = ap (λ (a : Started × (List ℕ × List ℕ)). a .0 .refusal) start-is
+
+  slice-accepted : first (sliceRows d (area d + 1) begun) ≡ 0
+  unfolding Calls.slice afterAll heldAt
+  slice-accepted =
+      subst (λ (h : Held). Calls.slice (h .walk) (area d + 1) (h .marks) (h .stack) .0 .refusal ≡ 0) held-begun
+      (demand-3 d t magnitudes marks stack refusal-is [] .next (area d + 1) (omega arith))
+
+  slice-is : Calls.slice (walkOf d (begun .pending)) (area d + 1) (begun .marks) (begun .stack) ≡ (record { refusal = 0; takes = takes d (area d + 1) begun; walk = walkOf d (ended .pending) }, lent ended)
+  unfolding Calls.slice afterSlice sliceTakes
+  slice-is = rw slice-accepted
+
+  held-ended : afterAll (slice (area d + 1) ∷ []) (heldAtStart d t magnitudes marks stack) ≡ heldAt ended
+  unfolding afterAll heldAt
+  held-ended =
+      ap (λ (h : Held). afterAll (slice (area d + 1) ∷ []) h) held-begun
+      ∙ ap (λ (a : Sliced × (List ℕ × List ℕ)). record { walk = a .0 .walk; marks = a .1 .0; stack = a .1 .1 }) slice-is
+
+  abbrev finished : (ended .pending ≡ 0) × Tells d (atLeast (t .high) magnitudes) (atLeast (t .low) magnitudes) (has 3 (ended .marks))
+  finished = end-tells d t magnitudes marks stack refusal-is
+
+  map-is : (out : List ℕ) → area d ≤ length out → Calls.map (walkOf d (ended .pending)) (ended .marks) (ended .stack) out ≡ (record { refusal = 0; walk = walkOf d (ended .pending) }, mapped (area d) (ended .marks) out)
+  unfolding Calls.map heldAt
+  map-is out room =
+      let p = demand-3 d t magnitudes marks stack refusal-is (slice (area d + 1) ∷ []) in
+      let given = subst (λ (h : Held). h .walk .pending ≡ 0 → Calls.map (h .walk) (h .marks) (h .stack) out .0 .refusal ≡ 0) held-ended (λ z. p .map-given z out room) in
+      let number : first (mapRows d ended out) ≡ 0 = given (finished .0) in
+      rw number
+
+  -- ---- the buffers past the picture
+
+  marks-past : drop (area d) (ended .marks) ≡ drop (area d) marks
+  unfolding afterStart
+  marks-past =
+      past-sliced d (area d + 1) begun (slice-fit d (area d + 1) begun slice-accepted) .marks
+      ∙ past-started d (atLeast (t .high) magnitudes) (atLeast (t .low) magnitudes) marks stack .marks
+
+  stack-past : drop (area d) (ended .stack) ≡ drop (area d) stack
+  unfolding afterStart
+  stack-past =
+      past-sliced d (area d + 1) begun (slice-fit d (area d + 1) begun slice-accepted) .stack
+      ∙ past-started d (atLeast (t .high) magnitudes) (atLeast (t .low) magnitudes) marks stack .stack
+
+-- ---- the map is the same from any buffers: from these, and from the definition's
+
+module _ (d : Size) (t : Thresholds) (magnitudes : List Float) (marks stack : List ℕ) (e : first (startRows d t magnitudes marks stack) ≡ 0) where
+  zeros-room : area d ≤ length (zeros (area d))
+  zeros-room = let e = length-tabulate {A = ℕ} (area d) (λ i. 0) in omega arith
+
+  zeros-accepted : first (startRows d t magnitudes (zeros (area d)) (zeros (area d))) ≡ 0
+  zeros-accepted =
+      let p = off (startRows d t magnitudes marks stack) tt e in
+      none (startRows d t magnitudes (zeros (area d)) (zeros (area d)))
+      (p .0, (p .1 .0, (p .1 .1 .0, (p .1 .1 .1 .0, (room-fits d (zeros (area d)) zeros-room, (room-fits d (zeros (area d)) zeros-room, tt))))))
+
+  same-mark : (q : ℕ) → q < area d → has 3 (ended d t magnitudes marks stack e .marks) q ≡ has 3 (endOf d t magnitudes .marks) q
+  unfolding endOf
+  same-mark q l =
+      let a = finished d t magnitudes marks stack e .1 in
+      let b = finished d t magnitudes (zeros (area d)) (zeros (area d)) zeros-accepted .1 in
+      agree _ _ (λ x. b .complete q (a .sound q l x)) (λ x. a .complete q (b .sound q l x))
+
+  pub edges-are : (out out' : List ℕ) → out' ≡ mapped (area d) (ended d t magnitudes marks stack e .marks) out → out' ≡ filled (area d) (λ q. getD (edgesOf d t magnitudes) q 0) out
+  unfolding edgesOf
+  edges-are out out' p =
+      recount (area d) _ _ out out' p
+      (λ q l. ap (λ (b : Bool). cond b 255 0) (same-mark q l) ∙ sym (getD-tabulate (area d) (λ (q : ℕ). edge (getD (endOf d t magnitudes .marks) q 0)) 0 q l))
+
+-- ---- the three calls in turn
+
+module _ (d : Size) (t : Thresholds) (suppressed : List Float) (marks stack out : List ℕ) (w : Walkable d t suppressed marks stack out) (r : Started) (m₁ s₁ : List ℕ)
+    (e₁ : (r, (m₁, s₁)) ≡ Calls.start d t (take (area d - 0) (drop 0 suppressed)) marks stack) (r₂ : Sliced) (m₂ s₂ : List ℕ) (e₂ : (r₂, (m₂, s₂)) ≡ Calls.slice (r .walk) (area d + 1) m₁ s₁)
+    (r₃ : Mapped) (out' : List ℕ) (e₃ : (r₃, out') ≡ Calls.map (r₂ .walk) m₂ s₂ out) where
+  abbrev S : List Float
+  S = take (area d) suppressed
+
+  at-start : _≡_ {A = Started × (List ℕ × List ℕ)} (r, (m₁, s₁)) (record { refusal = 0; walk = walkOf d (begun d t S marks stack (w .accepted) .pending) }, lent (begun d t S marks stack (w .accepted)))
+  at-start = e₁ ∙ ap (λ (l : List Float). Calls.start d t l marks stack) (first-part (area d) suppressed) ∙ start-is d t S marks stack (w .accepted)
+
+  at-end : _≡_ {A = Sliced × (List ℕ × List ℕ)} (r₂, (m₂, s₂)) (record { refusal = 0; takes = takes d (area d + 1) (begun d t S marks stack (w .accepted)); walk = walkOf d (ended d t S marks stack (w .accepted) .pending) }, lent (ended d t S marks stack (w .accepted)))
+  at-end =
+      e₂ ∙ ap (λ (a : Started × (List ℕ × List ℕ)). Calls.slice (a .0 .walk) (area d + 1) (a .1 .0) (a .1 .1)) at-start
+      ∙ slice-is d t S marks stack (w .accepted)
+
+  at-map : _≡_ {A = Mapped × List ℕ} (r₃, out') (record { refusal = 0; walk = walkOf d (ended d t S marks stack (w .accepted) .pending) }, mapped (area d) (ended d t S marks stack (w .accepted) .marks) out)
+  at-map =
+      e₃ ∙ ap (λ (a : Sliced × (List ℕ × List ℕ)). Calls.map (a .0 .walk) (a .1 .0) (a .1 .1) out) at-end
+      ∙ map-is d t S marks stack (w .accepted) out (w .room)
+
+  pub walked : Walked d t suppressed marks stack out m₂ s₂ out'
+  walked =
+      record {
+        is = edges-are d t S marks stack (w .accepted) out out' (ap (λ (a : Mapped × List ℕ). a .1) at-map);
+        marks-kept = ap (λ (a : Sliced × (List ℕ × List ℕ)). drop (area d) (a .1 .0)) at-end ∙ marks-past d t S marks stack (w .accepted);
+        stack-kept = ap (λ (a : Sliced × (List ℕ × List ℕ)). drop (area d) (a .1 .1)) at-end ∙ stack-past d t S marks stack (w .accepted);
+      }

@@ -1,0 +1,70 @@
+-- `walk` meets its contract: the start, one slice and the map request, composed. Assumes nothing.
+use borrow.Author.Needs.{needs}
+use denote.Ref.{now}
+use native.Mathlib.Omega.{arith}
+use Rattle.rules.proofs.Rows.{off, side-off}
+use Rattle.rules.specs.Refusals.{startRows}
+use Rattle.rules.specs.Picture.{area}
+use lib.ListN.{take}
+use Rattle.canny.proofs.Walking.{walked}
+use Rattle.canny.proofs.stages.walk.Statement.{statement}
+use Rattle.canny.proofs.stages.walk.Tie as tie
+
+mul-n : tie.Need-mul-n
+mul-n c = search needs
+
+sub-start : tie.Need-sub-start
+sub-start c = search needs
+
+part-start-start : tie.Need-part-start-start
+part-start-start c = search needs
+
+part-start-end : tie.Need-part-start-end
+part-start-end c = search needs
+
+start-requires : tie.Need-start-requires
+start-requires c κs = search needs
+
+add-slice : tie.Need-add-slice
+add-slice c = search needs
+
+slice-requires : tie.Need-slice-requires
+slice-requires c κs = search needs
+
+map-requires : tie.Need-map-requires
+map-requires c κs = search needs
+
+same-length : tie.Need-same-length
+same-length c = search needs
+
+same-length-2 : tie.Need-same-length-2
+same-length-2 c = search needs
+
+same-length-3 : tie.Need-same-length-3
+same-length-3 c = search needs
+
+returns : tie.Need-returns
+returns c =
+    let m = c .before .before in
+    let l = m .before .before .before .before .before .before .before .before .before in
+    let b = l .before .before .before .before .before .before .before .before in
+    let s = b .before .before .before .before .before .before .before .before .before in
+    let a = s .args in
+    walked (a .size) (a .thresholds) (now (a .suppressed)) (now (a .marks)) (now (a .stack)) (now (a .out)) (s .pre) _ _ _ (b .start .ensures) _ _ _ (l .slice .ensures) _ _ (m .map .ensures)
+
+pub walk-spec : {M : Type 1} → statement M
+walk-spec =
+    tie.close
+    (tie.spec
+    mul-n
+    sub-start
+    part-start-start
+    part-start-end
+    start-requires
+    add-slice
+    slice-requires
+    map-requires
+    same-length
+    same-length-2
+    same-length-3
+    returns)

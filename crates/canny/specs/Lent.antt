@@ -1,0 +1,62 @@
+-- What an accepted run lends its stages, and what they leave in it.
+use Prim.Native.Nat.{ℕ, _≤_}
+use mathlib.Core.Path.{_≡_}
+use mathlib.Core.Bool.{false}
+use mathlib.Core.List.{List, [], _∷_}
+use lib.Dec.{ltb}
+use lib.ListN.{length, getD, take, drop}
+use lib.IntN.{ℤ}
+use lib.Ieee.{Float, nan}
+use Rattle.rules.specs.Limits.{maxSide, maxTaps}
+use Rattle.rules.specs.Picture.{area, filled}
+use Rattle.rules.specs.Refusals.{Rule, Scratch, rule, first, sideRow, inputRow, countRow, weightRow, thresholdRow, orderRow, startRows}
+use Rattle.rules.specs.Run.{suppressedOf, edgesOf}
+use Rattle.rules.specs.declared.Size.{Size}
+use Rattle.rules.specs.declared.Thresholds.{Thresholds}
+
+abbrev pub scratch : List Float → List Float → List ℤ → List ℤ → List ℕ → List ℕ → List ℕ → Scratch
+scratch w m x y b k s = record { work = w; magnitude = m; gx = x; gy = y; blurred = b; marks = k; stack = s }
+
+-- the rows of a run whose shortest lent buffer has `room` entries
+abbrev pub roomRows : Size → List ℕ → List Float → Thresholds → ℕ → List Rule
+roomRows d pixels taps t room =
+    sideRow d
+    ∷ inputRow d pixels
+    ∷ countRow maxTaps (length taps)
+    ∷ weightRow taps
+    ∷ thresholdRow t
+    ∷ orderRow t
+    ∷ rule 7 (ltb room (area d))
+    ∷ []
+
+-- what the stages up to suppression know
+pub record Run (d : Size) (pixels : List ℕ) (taps work magnitude : List Float) (gx gy : List ℤ) (blurred : List ℕ) : Type 0 where
+  pub sides : sideRow d .applies ≡ false
+  pub long : length pixels ≡ area d
+  pub counted : countRow maxTaps (length taps) .applies ≡ false
+  pub weighed : weightRow taps .applies ≡ false
+  pub work-room : area d ≤ length work
+  pub magnitude-room : area d ≤ length magnitude
+  pub gx-room : area d ≤ length gx
+  pub gy-room : area d ≤ length gy
+  pub blurred-room : area d ≤ length blurred
+
+-- and leave: the suppressed magnitudes, and nothing changed past the picture
+pub record Suppressed (d : Size) (pixels : List ℕ) (taps work magnitude : List Float) (gx gy : List ℤ) (blurred : List ℕ) (work' magnitude' : List Float) (gx' gy' : List ℤ) (blurred' : List ℕ) : Type 0 where
+  pub is : work' ≡ filled (area d) (λ i. getD (suppressedOf d pixels taps) i nan) work
+  pub magnitude-kept : drop (area d) magnitude' ≡ drop (area d) magnitude
+  pub gx-kept : drop (area d) gx' ≡ drop (area d) gx
+  pub gy-kept : drop (area d) gy' ≡ drop (area d) gy
+  pub blurred-kept : drop (area d) blurred' ≡ drop (area d) blurred
+
+-- what the walk knows
+pub record Walkable (d : Size) (t : Thresholds) (suppressed : List Float) (marks stack out : List ℕ) : Type 0 where
+  pub accepted : first (startRows d t (take (area d) suppressed) marks stack) ≡ 0
+  pub long : area d ≤ length suppressed
+  pub room : area d ≤ length out
+
+-- and leaves
+pub record Walked (d : Size) (t : Thresholds) (suppressed : List Float) (marks stack out marks' stack' out' : List ℕ) : Type 0 where
+  pub is : out' ≡ filled (area d) (λ q. getD (edgesOf d t (take (area d) suppressed)) q 0) out
+  pub marks-kept : drop (area d) marks' ≡ drop (area d) marks
+  pub stack-kept : drop (area d) stack' ≡ drop (area d) stack

@@ -1,0 +1,2 @@
+-- What the stages of a run require and leave.
+pub mod Lent

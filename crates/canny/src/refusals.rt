@@ -1,0 +1,60 @@
+// The refusal number of a whole run: rows 1 to 7 of 01's table, in ascending order.
+use rules::table::bad_count;
+use rules::table::bad_threshold;
+use rules::table::bad_weight;
+use rules::table::side_over;
+use rules::Size;
+use rules::Thresholds;
+use rules::ACCEPTED;
+use rules::MAX_TAPS;
+use rules::REFUSED_COUNT;
+use rules::REFUSED_INPUT;
+use rules::REFUSED_ORDER;
+use rules::REFUSED_ROOM;
+use rules::REFUSED_SIDE;
+use rules::REFUSED_THRESHOLD;
+use rules::REFUSED_WEIGHT;
+ghost use mathlib.Core.Path.{_≡_};
+ghost use Prim.Native.Nat.{min};
+ghost use Rattle.rules.specs.Refusals.{first};
+ghost use Rattle.canny.specs.Lent.{roomRows};
+
+pub(crate) fn least(a: usize, b: usize) -> usize
+    ensures { λ r. ⌜ r ≡ min a b ⌝ }
+{
+    if a < b { a } else { b }
+}
+
+// `room` is the shortest lent buffer's length.
+pub(crate) fn of_run(
+    pixels: &[u8],
+    size: Size,
+    taps: &[f32],
+    thresholds: Thresholds,
+    room: usize,
+) -> u8
+    ensures { λ r. ⌜ r ≡ first (roomRows size (now (pixels .entry)) (now (taps .entry)) thresholds room) ⌝ }
+{
+    if side_over(size) {
+        return REFUSED_SIDE;
+    }
+    if pixels.len() != size.width * size.height {
+        return REFUSED_INPUT;
+    }
+    if bad_count(MAX_TAPS, taps.len()) {
+        return REFUSED_COUNT;
+    }
+    if bad_weight(taps) {
+        return REFUSED_WEIGHT;
+    }
+    if bad_threshold(thresholds.low) | bad_threshold(thresholds.high) {
+        return REFUSED_THRESHOLD;
+    }
+    if thresholds.high < thresholds.low {
+        return REFUSED_ORDER;
+    }
+    if room < size.width * size.height {
+        return REFUSED_ROOM;
+    }
+    ACCEPTED
+}

@@ -1,0 +1,76 @@
+// The stages between the refusals and the clearing: each public call in turn, over parts of the scratch that are width times height long.
+use filters::gaussian::gaussian_blur;
+use hysteresis::map;
+use hysteresis::slice;
+use hysteresis::start;
+use rules::BorderMode;
+use rules::Size;
+use rules::Thresholds;
+use rules::EDGE;
+use suppression::gradient_magnitude;
+use suppression::non_maximum_suppression;
+use windows::sobel::sobel_gradients;
+ghost use mathlib.Core.Path.{_≡_};
+ghost use Prim.Native.Nat.{_≤_};
+ghost use lib.Dec.{eqb};
+ghost use lib.ListN.{length, getD};
+ghost use Rattle.rules.specs.Picture.{tally};
+ghost use Rattle.canny.specs.Lent.{Run, Suppressed, Walkable, Walked};
+
+// Blur, gradient, magnitude and suppression: the suppressed magnitudes are left in `work`.
+pub(crate) fn suppress(
+    pixels: &[u8],
+    size: Size,
+    taps: &[f32],
+    work: &mut [f32],
+    magnitude: &mut [f32],
+    gx: &mut [i16],
+    gy: &mut [i16],
+    blurred: &mut [u8],
+)
+    requires { ⌜ Run size (now pixels) (now taps) (now work) (now magnitude) (now gx) (now gy) (now blurred) ⌝ }
+    ensures { λ _. ⌜ Suppressed size (now (pixels .entry)) (now (taps .entry)) (now (work .entry)) (now (magnitude .entry)) (now (gx .entry)) (now (gy .entry)) (now (blurred .entry)) (now (work .exit)) (now (magnitude .exit)) (now (gx .exit)) (now (gy .exit)) (now (blurred .exit)) ⌝ }
+{
+    let n = size.width * size.height;
+    gaussian_blur(pixels, size, taps, BorderMode::Clamp, work, blurred);
+    sobel_gradients(&blurred[0..n], size, BorderMode::Clamp, gx, gy);
+    gradient_magnitude(&gx[0..n], &gy[0..n], size, magnitude);
+    non_maximum_suppression(&magnitude[0..n], &gx[0..n], &gy[0..n], size, work);
+}
+
+// A walk to its end over the suppressed magnitudes, and its map. Each take finishes a pixel, so a budget of one more than there are
+// pixels ends it.
+pub(crate) fn walk(
+    suppressed: &[f32],
+    size: Size,
+    thresholds: Thresholds,
+    marks: &mut [u8],
+    stack: &mut [u32],
+    out: &mut [u8],
+)
+    requires { ⌜ Walkable size thresholds (now suppressed) (now marks) (now stack) (now out) ⌝ }
+    ensures { λ _. ⌜ Walked size thresholds (now (suppressed .entry)) (now (marks .entry)) (now (stack .entry)) (now (out .entry)) (now (marks .exit)) (now (stack .exit)) (now (out .exit)) ⌝ }
+{
+    let n = size.width * size.height;
+    let begun = start(&suppressed[0..n], size, thresholds, marks, stack);
+    let first = begun.walk;
+    let ended = slice(first, n + 1, marks, stack);
+    let last = ended.walk;
+    map(last, marks, stack, out);
+}
+
+// How many of the map's first n entries are 255.
+pub(crate) fn count_edges(map: &[u8], n: usize) -> usize
+    requires { ⌜ n ≤ length (now map) ⌝ }
+    ensures { λ r. ⌜ r ≡ tally (λ q. eqb (getD (now (map .entry)) q 0) 255) n ⌝ }
+{
+    let mut count = 0;
+    let mut i = 0;
+    while i < n {
+        if map[i] == EDGE {
+            count += 1;
+        }
+        i += 1;
+    }
+    count
+}
