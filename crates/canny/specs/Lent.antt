@@ -10,7 +10,7 @@ use lib.Ieee.{Float, nan}
 use Rattle.rules.specs.Limits.{maxSide, maxTaps}
 use Rattle.rules.specs.Picture.{area, filled}
 use Rattle.rules.specs.Refusals.{Rule, Scratch, rule, first, sideRow, inputRow, countRow, weightRow, thresholdRow, orderRow, startRows}
-use Rattle.rules.specs.Run.{suppressedOf, edgesOf}
+use Rattle.rules.specs.Run.{suppressedOf, edgesOf, runEdges, countOf, clearedScratch}
 use Rattle.rules.specs.declared.Size.{Size}
 use Rattle.rules.specs.declared.Thresholds.{Thresholds}
 
@@ -60,3 +60,9 @@ pub record Walked (d : Size) (t : Thresholds) (suppressed : List Float) (marks s
   pub is : out' ≡ filled (area d) (λ q. getD (edgesOf d t (take (area d) suppressed)) q 0) out
   pub marks-kept : drop (area d) marks' ≡ drop (area d) marks
   pub stack-kept : drop (area d) stack' ≡ drop (area d) stack
+
+-- what an accepted run answers and leaves
+abbrev pub accepted : Size → List ℕ → List Float → Thresholds → Scratch → List ℕ → ℕ × (List ℕ × Scratch)
+accepted d pixels taps t s out =
+    let edges = runEdges d pixels taps t in
+    (countOf d edges, (filled (area d) (λ q. getD edges q 0) out, clearedScratch d s))

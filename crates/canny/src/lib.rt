@@ -4,19 +4,13 @@ mod clearing;
 mod refusals;
 mod stages;
 
-use clearing::clear_bytes;
-use clearing::clear_components;
-use clearing::clear_floats;
-use clearing::clear_places;
-use refusals::least;
 use refusals::of_run;
+use refusals::shortest;
+use rules::ACCEPTED;
 use rules::Counted;
 use rules::Size;
 use rules::Thresholds;
-use rules::ACCEPTED;
-use stages::count_edges;
-use stages::suppress;
-use stages::walk;
+use stages::run;
 ghost use mathlib.Core.Path.{_≡_};
 ghost use Rattle.rules.specs.Run as Run;
 ghost use Rattle.canny.specs.Lent.{scratch};
@@ -39,30 +33,36 @@ pub fn canny(
 ) -> Counted
     ensures { λ r. ⌜ (r, (now (map .exit), scratch (now (work .exit)) (now (magnitude .exit)) (now (gx .exit)) (now (gy .exit)) (now (blurred .exit)) (now (marks .exit)) (now (stack .exit)))) ≡ Run.canny size (now (pixels .entry)) (now (taps .entry)) thresholds (scratch (now (work .entry)) (now (magnitude .entry)) (now (gx .entry)) (now (gy .entry)) (now (blurred .entry)) (now (marks .entry)) (now (stack .entry))) (now (map .entry)) ⌝ }
 {
-    let floats = least(work.len(), magnitude.len());
-    let components = least(gx.len(), gy.len());
-    let bytes = least(blurred.len(), marks.len());
-    let others = least(stack.len(), map.len());
-    let room = least(least(floats, components), least(bytes, others));
+    let room = shortest(
+        work.len(),
+        magnitude.len(),
+        gx.len(),
+        gy.len(),
+        blurred.len(),
+        marks.len(),
+        stack.len(),
+        map.len(),
+    );
     let refusal = of_run(pixels, size, taps, thresholds, room);
     if refusal != ACCEPTED {
-        return Counted {
-            refusal,
-            count: 0,
-        };
+        return Counted { refusal, count: 0 };
     }
-    let n = size.width * size.height;
-    suppress(pixels, size, taps, work, magnitude, gx, gy, blurred);
-    walk(work, size, thresholds, marks, stack, map);
-    clear_floats(work, n);
-    clear_floats(magnitude, n);
-    clear_components(gx, n);
-    clear_components(gy, n);
-    clear_bytes(blurred, n);
-    clear_bytes(marks, n);
-    clear_places(stack, n);
+    let count = run(
+        pixels,
+        size,
+        taps,
+        thresholds,
+        work,
+        magnitude,
+        gx,
+        gy,
+        blurred,
+        marks,
+        stack,
+        map,
+    );
     Counted {
         refusal: ACCEPTED,
-        count: count_edges(map, n),
+        count,
     }
 }

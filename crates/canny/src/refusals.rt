@@ -1,10 +1,4 @@
 // The refusal number of a whole run: rows 1 to 7 of 01's table, in ascending order.
-use rules::table::bad_count;
-use rules::table::bad_threshold;
-use rules::table::bad_weight;
-use rules::table::side_over;
-use rules::Size;
-use rules::Thresholds;
 use rules::ACCEPTED;
 use rules::MAX_TAPS;
 use rules::REFUSED_COUNT;
@@ -14,15 +8,40 @@ use rules::REFUSED_ROOM;
 use rules::REFUSED_SIDE;
 use rules::REFUSED_THRESHOLD;
 use rules::REFUSED_WEIGHT;
+use rules::Size;
+use rules::Thresholds;
+use rules::table::bad_count;
+use rules::table::bad_threshold;
+use rules::table::bad_weight;
+use rules::table::side_over;
 ghost use mathlib.Core.Path.{_≡_};
 ghost use Prim.Native.Nat.{min};
 ghost use Rattle.rules.specs.Refusals.{first};
 ghost use Rattle.canny.specs.Lent.{roomRows};
 
-pub(crate) fn least(a: usize, b: usize) -> usize
+fn least(a: usize, b: usize) -> usize
     ensures { λ r. ⌜ r ≡ min a b ⌝ }
 {
     if a < b { a } else { b }
+}
+
+// The least of eight.
+pub(crate) fn shortest(
+    a: usize,
+    b: usize,
+    c: usize,
+    d: usize,
+    e: usize,
+    f: usize,
+    g: usize,
+    h: usize,
+) -> usize
+    ensures { λ r. ⌜ r ≡ min a (min b (min c (min d (min e (min f (min g h)))))) ⌝ }
+{
+    least(
+        a,
+        least(b, least(c, least(d, least(e, least(f, least(g, h)))))),
+    )
 }
 
 // `room` is the shortest lent buffer's length.

@@ -1,12 +1,14 @@
 // The stages between the refusals and the clearing: each public call in turn, over parts of the scratch that are width times height long.
+use crate::clearing::clear_stages;
+use crate::clearing::clear_walk;
 use filters::gaussian::gaussian_blur;
 use hysteresis::map;
 use hysteresis::slice;
 use hysteresis::start;
 use rules::BorderMode;
+use rules::EDGE;
 use rules::Size;
 use rules::Thresholds;
-use rules::EDGE;
 use suppression::gradient_magnitude;
 use suppression::non_maximum_suppression;
 use windows::sobel::sobel_gradients;
@@ -15,10 +17,11 @@ ghost use Prim.Native.Nat.{_≤_};
 ghost use lib.Dec.{eqb};
 ghost use lib.ListN.{length, getD};
 ghost use Rattle.rules.specs.Picture.{tally};
-ghost use Rattle.canny.specs.Lent.{Run, Suppressed, Walkable, Walked};
+ghost use Rattle.rules.specs.Refusals.{first, runRows};
+ghost use Rattle.canny.specs.Lent.{scratch, accepted, Run, Suppressed, Walkable, Walked};
 
 // Blur, gradient, magnitude and suppression: the suppressed magnitudes are left in `work`.
-pub(crate) fn suppress(
+fn suppress(
     pixels: &[u8],
     size: Size,
     taps: &[f32],
@@ -40,7 +43,7 @@ pub(crate) fn suppress(
 
 // A walk to its end over the suppressed magnitudes, and its map. Each take finishes a pixel, so a budget of one more than there are
 // pixels ends it.
-pub(crate) fn walk(
+fn walk(
     suppressed: &[f32],
     size: Size,
     thresholds: Thresholds,
@@ -60,7 +63,7 @@ pub(crate) fn walk(
 }
 
 // How many of the map's first n entries are 255.
-pub(crate) fn count_edges(map: &[u8], n: usize) -> usize
+fn count_edges(map: &[u8], n: usize) -> usize
     requires { ⌜ n ≤ length (now map) ⌝ }
     ensures { λ r. ⌜ r ≡ tally (λ q. eqb (getD (now (map .entry)) q 0) 255) n ⌝ }
 {
@@ -73,4 +76,30 @@ pub(crate) fn count_edges(map: &[u8], n: usize) -> usize
         i += 1;
     }
     count
+}
+
+// An accepted run: the map is written, the scratch is zero, and the answer counts the map's 255s.
+pub(crate) fn run(
+    pixels: &[u8],
+    size: Size,
+    taps: &[f32],
+    thresholds: Thresholds,
+    work: &mut [f32],
+    magnitude: &mut [f32],
+    gx: &mut [i16],
+    gy: &mut [i16],
+    blurred: &mut [u8],
+    marks: &mut [u8],
+    stack: &mut [u32],
+    map: &mut [u8],
+) -> usize
+    requires { ⌜ first (runRows size (now pixels) (now taps) thresholds (scratch (now work) (now magnitude) (now gx) (now gy) (now blurred) (now marks) (now stack)) (now map)) ≡ 0 ⌝ }
+    ensures { λ r. ⌜ (r, (now (map .exit), scratch (now (work .exit)) (now (magnitude .exit)) (now (gx .exit)) (now (gy .exit)) (now (blurred .exit)) (now (marks .exit)) (now (stack .exit)))) ≡ accepted size (now (pixels .entry)) (now (taps .entry)) thresholds (scratch (now (work .entry)) (now (magnitude .entry)) (now (gx .entry)) (now (gy .entry)) (now (blurred .entry)) (now (marks .entry)) (now (stack .entry))) (now (map .entry)) ⌝ }
+{
+    let n = size.width * size.height;
+    suppress(pixels, size, taps, work, magnitude, gx, gy, blurred);
+    clear_stages(magnitude, gx, gy, blurred, n);
+    walk(work, size, thresholds, marks, stack, map);
+    clear_walk(work, marks, stack, n);
+    count_edges(map, n)
 }

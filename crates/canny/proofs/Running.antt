@@ -1,0 +1,165 @@
+-- A whole run: its table with one row for the shortest buffer, what acceptance grants the stages, and what they leave together. Assumes nothing.
+use mathlib.Core.Path.{_≡_, refl, sym, ap, _∙_}
+use mathlib.Core.Bool.{Bool, true, false, cond}
+use mathlib.Core.List.{List}
+use Prim.Native.Nat.{ℕ, _-_, _*_, _<_, _≤_, min}
+use native.Mathlib.Omega.{arith}
+use lib.Dec.{ltb, eqb}
+use lib.ListN.{length, getD, take, drop}
+use lib.IntN.{ℤ, pos}
+use lib.Ieee.{Float, nan}
+use borrow.Author.Tests.{ltb-true, ltb-false, lt-ltb, le-ltb, ne-eqb}
+use Rattle.rules.specs.Limits.{maxTaps}
+use Rattle.rules.specs.Picture.{area, tabulate, filled, cleared, tally}
+use Rattle.rules.specs.Sums.{plusZero}
+use Rattle.rules.specs.Refusals.{first, Scratch, sideRow, inputRow, countRow, weightRow, thresholdRow, orderRow, roomRow, runRows, startRows}
+use Rattle.rules.specs.Run.{suppressedOf, edgesOf, runEdges, countOf, clearedScratch, canny}
+use Rattle.rules.specs.declared.Size.{Size}
+use Rattle.rules.specs.declared.Thresholds.{Thresholds}
+use Rattle.rules.specs.declared.Counted.{Counted}
+use Rattle.rules.proofs.Fill.{length-tabulate, length-filled, filled-at, take-filled, drop-filled, tabulate-getD, tabulate-cong, getD-tabulate}
+use Rattle.rules.proofs.Rows.{off, none, side-off, input-off, room-off, input-fits, room-fits}
+use Rattle.rules.proofs.Tallies.{tally-eq}
+use Rattle.canny.specs.Lent.{scratch, roomRows, accepted, Run, Suppressed, Walkable, Walked}
+
+-- ---- eight rows for room are one, of the shortest
+
+-- the number that a row for room of this length answers, before the number of the rows behind it
+abbrev lacks : ℕ → ℕ → ℕ → ℕ
+lacks n room rest = cond (ltb room n) 7 rest
+
+short : (n a b : ℕ) → lacks n (min a b) 0 ≡ lacks n a (lacks n b 0)
+short n a b = go (ltb a n) (ltb b n) refl refl
+  where
+    go : (p q : Bool) → ltb a n ≡ p → ltb b n ≡ q → lacks n (min a b) 0 ≡ cond {A = ℕ} p 7 (cond q 7 0)
+    go true q e f = let l = ltb-true a n e in rw (lt-ltb (min a b) n (omega arith))
+    go false true e f = let l = ltb-true b n f in rw (lt-ltb (min a b) n (omega arith))
+    go false false e f = let l = ltb-false a n e in let m = ltb-false b n f in rw (le-ltb (min a b) n (omega arith))
+
+-- one more in front
+longer : (n a b rest : ℕ) → lacks n b 0 ≡ rest → lacks n (min a b) 0 ≡ lacks n a rest
+longer n a b rest e = short n a b ∙ ap (lacks n a) e
+
+pub room-number : (d : Size) (pixels : List ℕ) (taps : List Float) (t : Thresholds) (s : Scratch) (out : List ℕ)
+    → first (roomRows d pixels taps t (min (length (s .work)) (min (length (s .magnitude)) (min (length (s .gx)) (min (length (s .gy)) (min (length (s .blurred)) (min (length (s .marks)) (min (length (s .stack)) (length out)))))))))
+    ≡ first (runRows d pixels taps t s out)
+room-number d pixels taps t s out =
+    let n = area d in
+    ap
+    (λ (x : ℕ). cond (sideRow d .applies) 1 (cond (inputRow d pixels .applies) 2 (cond (countRow maxTaps (length taps) .applies) 3 (cond (weightRow taps .applies) 4 (cond (thresholdRow t .applies) 5 (cond (orderRow t .applies) 6 x))))))
+    (longer n (length (s .work)) _ _
+    (longer n (length (s .magnitude)) _ _
+    (longer n (length (s .gx)) _ _
+    (longer n (length (s .gy)) _ _ (longer n (length (s .blurred)) _ _ (longer n (length (s .marks)) _ _ (longer n (length (s .stack)) (length out) _ refl)))))))
+
+-- ---- what the whole answers
+
+module _ (d : Size) (pixels : List ℕ) (taps : List Float) (t : Thresholds) (s : Scratch) (out : List ℕ) (room r : ℕ)
+    (shortest : room ≡ min (length (s .work)) (min (length (s .magnitude)) (min (length (s .gx)) (min (length (s .gy)) (min (length (s .blurred)) (min (length (s .marks)) (min (length (s .stack)) (length out))))))))
+    (answer : r ≡ first (roomRows d pixels taps t room)) where
+  pub number : r ≡ first (runRows d pixels taps t s out)
+  number = answer ∙ ap (λ (n : ℕ). first (roomRows d pixels taps t n)) shortest ∙ room-number d pixels taps t s out
+
+  pub refused : (r ≡ 0 → ⊥) → (record { refusal = r; count = 0 }, (out, s)) ≡ canny d pixels taps t s out
+  unfolding canny
+  refused n = rw (← number, ne-eqb r 0 n)
+
+  pub made : (c : ℕ) (left : List ℕ × Scratch) → r ≡ 0 → (c, left) ≡ accepted d pixels taps t s out → (record { refusal = 0; count = c }, left) ≡ canny d pixels taps t s out
+  unfolding canny
+  made c left z e =
+      ap (λ (p : ℕ × (List ℕ × Scratch)). (record { refusal = 0; count = p .0 }, p .1)) e ∙ rw (← number, z)
+
+-- ---- what acceptance grants
+
+module _ (d : Size) (pixels : List ℕ) (taps : List Float) (t : Thresholds) (s : Scratch) (out : List ℕ) (e : first (runRows d pixels taps t s out) ≡ 0) where
+  pub granted : Run d pixels taps (s .work) (s .magnitude) (s .gx) (s .gy) (s .blurred)
+  granted =
+      let p = off (runRows d pixels taps t s out) tt e in
+      let q = p .1 .1 .1 .1 .1 .1 in
+      record {
+        sides = p .0;
+        long = input-off d pixels (p .1 .0);
+        counted = p .1 .1 .0;
+        weighed = p .1 .1 .1 .0;
+        work-room = room-off d (s .work) (q .0);
+        magnitude-room = room-off d (s .magnitude) (q .1 .0);
+        gx-room = room-off d (s .gx) (q .1 .1 .0);
+        gy-room = room-off d (s .gy) (q .1 .1 .1 .0);
+        blurred-room = room-off d (s .blurred) (q .1 .1 .1 .1 .0);
+      }
+
+  pub record Rooms : Type 0 where
+    pub small : area d ≤ 409600
+    pub marks-room : area d ≤ length (s .marks)
+    pub stack-room : area d ≤ length (s .stack)
+    pub out-room : area d ≤ length out
+
+  pub rooms : Rooms
+  rooms =
+      let p = off (runRows d pixels taps t s out) tt e in
+      let q = p .1 .1 .1 .1 .1 .1 .1 .1 .1 .1 .1 in
+      record { small = side-off d (p .0) .small; marks-room = room-off d (s .marks) (q .0); stack-room = room-off d (s .stack) (q .1 .0); out-room = room-off d out (q .1 .1 .0) }
+
+  -- ---- after the stages up to suppression
+
+  module _ (work' magnitude' : List Float) (gx' gy' : List ℤ) (blurred' : List ℕ) (u : Suppressed d pixels taps (s .work) (s .magnitude) (s .gx) (s .gy) (s .blurred) work' magnitude' gx' gy' blurred') where
+    abbrev F : ℕ → Float
+    F i = getD (suppressedOf d pixels taps) i nan
+
+    -- the walk reads the suppressed magnitudes
+    suppressed-long : length (suppressedOf d pixels taps) ≡ area d
+    unfolding suppressedOf
+    suppressed-long = length-tabulate (area d) _
+
+    pub read : take (area d) work' ≡ suppressedOf d pixels taps
+    read =
+        take-filled (area d) F (s .work) work' (u .is)
+        ∙ ap (λ (n : ℕ). tabulate n F) (sym suppressed-long)
+        ∙ tabulate-getD (suppressedOf d pixels taps) nan
+
+    pub walkable : Walkable d t work' (s .marks) (s .stack) out
+    walkable =
+        let p = off (runRows d pixels taps t s out) tt e in
+        record {
+          accepted =
+              ap (λ (l : List Float). first (startRows d t l (s .marks) (s .stack))) read
+              ∙ none (startRows d t (suppressedOf d pixels taps) (s .marks) (s .stack))
+              (p .0, (input-fits d (suppressedOf d pixels taps) suppressed-long, (p .1 .1 .1 .1 .0, (p .1 .1 .1 .1 .1 .0, (room-fits d (s .marks) (rooms .marks-room), (room-fits d (s .stack) (rooms .stack-room), tt))))));
+          long = omega (arith, ap length (u .is) ∙ length-filled (area d) F (s .work) (granted .work-room), granted .work-room);
+          room = rooms .out-room;
+        }
+
+    -- ---- after the walk and the clearing
+
+    module _ (marks' stack' out' : List ℕ) (w : Walked d t work' (s .marks) (s .stack) out marks' stack' out') where
+      abbrev E : List ℕ
+      E = runEdges d pixels taps t
+
+      out-is : out' ≡ filled (area d) (λ q. getD E q 0) out
+      unfolding runEdges
+      out-is = w .is ∙ ap (λ (l : List Float). filled (area d) (λ q. getD (edgesOf d t l) q 0) out) read
+
+      counted : tally (λ q. eqb (getD out' q 0) 255) (area d) ≡ countOf d E
+      unfolding countOf
+      counted = tally-eq _ _ (area d) (λ q l. ap (λ (v : ℕ). eqb v 255) (filled-at (area d) (λ q. getD E q 0) out out' 0 q out-is l))
+
+      clear-past : {A : Type 0} (z : A) (o l r : List A) → drop (area d) l ≡ drop (area d) o → r ≡ cleared (area d) z l → r ≡ cleared (area d) z o
+      clear-past z o l r p q = rw (q, p)
+
+      pub ran : (c : ℕ) (work'' magnitude'' : List Float) (gx'' gy'' : List ℤ) (blurred'' marks'' stack'' : List ℕ)
+          → (magnitude'' ≡ cleared (area d) plusZero magnitude') × (gx'' ≡ cleared (area d) (pos 0) gx') × (gy'' ≡ cleared (area d) (pos 0) gy') × (blurred'' ≡ cleared (area d) 0 blurred')
+          → (work'' ≡ cleared (area d) plusZero work') × (marks'' ≡ cleared (area d) 0 marks') × (stack'' ≡ cleared (area d) 0 stack')
+          → c ≡ tally (λ q. eqb (getD out' q 0) 255) (area d)
+          → (c, (out', scratch work'' magnitude'' gx'' gy'' blurred'' marks'' stack'')) ≡ accepted d pixels taps t s out
+      ran c work'' magnitude'' gx'' gy'' blurred'' marks'' stack'' a b k =
+          rw (
+            k ∙ counted,
+            out-is,
+            clear-past plusZero (s .work) work' work'' (drop-filled (area d) F (s .work) work' (u .is)) (b .0),
+            clear-past plusZero (s .magnitude) magnitude' magnitude'' (u .magnitude-kept) (a .0),
+            clear-past (pos 0) (s .gx) gx' gx'' (u .gx-kept) (a .1),
+            clear-past (pos 0) (s .gy) gy' gy'' (u .gy-kept) (a .2),
+            clear-past 0 (s .blurred) blurred' blurred'' (u .blurred-kept) (a .3),
+            clear-past 0 (s .marks) marks' marks'' (w .marks-kept) (b .1),
+            clear-past 0 (s .stack) stack' stack'' (w .stack-kept) (b .2),
+          )
