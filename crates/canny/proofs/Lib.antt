@@ -2,3 +2,4 @@
 pub mod Suppressing
 pub mod Walking
 pub mod Running
+pub mod Demand

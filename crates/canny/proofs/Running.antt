@@ -100,6 +100,17 @@ module _ (d : Size) (pixels : List ℕ) (taps : List Float) (t : Thresholds) (s 
       let q = p .1 .1 .1 .1 .1 .1 .1 .1 .1 .1 .1 in
       record { small = side-off d (p .0) .small; marks-room = room-off d (s .marks) (q .0); stack-room = room-off d (s .stack) (q .1 .0); out-room = room-off d out (q .1 .1 .0) }
 
+  -- a walk over the suppressed magnitudes is accepted
+  suppressed-long : length (suppressedOf d pixels taps) ≡ area d
+  unfolding suppressedOf
+  suppressed-long = length-tabulate (area d) _
+
+  pub startable : first (startRows d t (suppressedOf d pixels taps) (s .marks) (s .stack)) ≡ 0
+  startable =
+      let p = off (runRows d pixels taps t s out) tt e in
+      none (startRows d t (suppressedOf d pixels taps) (s .marks) (s .stack))
+      (p .0, (input-fits d (suppressedOf d pixels taps) suppressed-long, (p .1 .1 .1 .1 .0, (p .1 .1 .1 .1 .1 .0, (room-fits d (s .marks) (rooms .marks-room), (room-fits d (s .stack) (rooms .stack-room), tt))))))
+
   -- ---- after the stages up to suppression
 
   module _ (work' magnitude' : List Float) (gx' gy' : List ℤ) (blurred' : List ℕ) (u : Suppressed d pixels taps (s .work) (s .magnitude) (s .gx) (s .gy) (s .blurred) work' magnitude' gx' gy' blurred') where
@@ -107,10 +118,6 @@ module _ (d : Size) (pixels : List ℕ) (taps : List Float) (t : Thresholds) (s 
     F i = getD (suppressedOf d pixels taps) i nan
 
     -- the walk reads the suppressed magnitudes
-    suppressed-long : length (suppressedOf d pixels taps) ≡ area d
-    unfolding suppressedOf
-    suppressed-long = length-tabulate (area d) _
-
     pub read : take (area d) work' ≡ suppressedOf d pixels taps
     read =
         take-filled (area d) F (s .work) work' (u .is)
@@ -118,16 +125,11 @@ module _ (d : Size) (pixels : List ℕ) (taps : List Float) (t : Thresholds) (s 
         ∙ tabulate-getD (suppressedOf d pixels taps) nan
 
     pub walkable : Walkable d t work' (s .marks) (s .stack) out
-    walkable =
-        let p = off (runRows d pixels taps t s out) tt e in
-        record {
-          accepted =
-              ap (λ (l : List Float). first (startRows d t l (s .marks) (s .stack))) read
-              ∙ none (startRows d t (suppressedOf d pixels taps) (s .marks) (s .stack))
-              (p .0, (input-fits d (suppressedOf d pixels taps) suppressed-long, (p .1 .1 .1 .1 .0, (p .1 .1 .1 .1 .1 .0, (room-fits d (s .marks) (rooms .marks-room), (room-fits d (s .stack) (rooms .stack-room), tt))))));
-          long = omega (arith, ap length (u .is) ∙ length-filled (area d) F (s .work) (granted .work-room), granted .work-room);
-          room = rooms .out-room;
-        }
+    walkable = record {
+      accepted = ap (λ (l : List Float). first (startRows d t l (s .marks) (s .stack))) read ∙ startable;
+      long = omega (arith, ap length (u .is) ∙ length-filled (area d) F (s .work) (granted .work-room), granted .work-room);
+      room = rooms .out-room;
+    }
 
     -- ---- after the walk and the clearing
 

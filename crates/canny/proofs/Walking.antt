@@ -8,14 +8,15 @@ use native.Mathlib.Omega.{arith}
 use lib.Dec.{T, eqb}
 use lib.ListN.{length, getD, take, drop}
 use lib.Ieee.{Float}
+use borrow.Author.Tests.{eq-eqb, ne-eqb}
 use Rattle.rules.specs.Picture.{area, tabulate, zeros, filled}
 use Rattle.rules.specs.Walk.{State, state, has, sliced, takes, atLeast, edge, mapped}
 use Rattle.rules.specs.Refusals.{first, startRows, sliceRows, mapRows}
 use Rattle.rules.specs.Calls as Calls
 use Rattle.rules.specs.Calls.{walkOf, lent, afterStart, afterSlice, sliceTakes}
-use Rattle.rules.specs.Joined.{Tells, afterAll, Held, heldAtStart}
+use Rattle.rules.specs.Joined.{Joined, Tells, joined, joinedCount, afterAll, Held, heldAtStart}
 use Rattle.rules.specs.Joined.Call.{slice}
-use Rattle.rules.specs.Run.{endOf, edgesOf}
+use Rattle.rules.specs.Run.{endOf, edgesOf, countOf}
 use Rattle.rules.specs.declared.Size.{Size}
 use Rattle.rules.specs.declared.Thresholds.{Thresholds}
 use Rattle.rules.specs.declared.Started.{Started}
@@ -24,6 +25,8 @@ use Rattle.rules.specs.declared.Mapped.{Mapped}
 use Rattle.rules.proofs.Bools.{true-is, is-true, clash}
 use Rattle.rules.proofs.Fill.{length-tabulate, getD-tabulate, recount, first-part}
 use Rattle.rules.proofs.Rows.{off, none, room-fits}
+use Rattle.rules.proofs.Tallies.{tally-eq}
+use Rattle.rules.proofs.Paths.{way-in, joined-tells, joined-count, same-count}
 use Rattle.hysteresis.proofs.Demand.{demand-3, end-tells}
 use Rattle.hysteresis.proofs.Fits.{past-started, past-sliced}
 use Rattle.hysteresis.proofs.Numbers.{slice-fit}
@@ -123,6 +126,41 @@ module _ (d : Size) (t : Thresholds) (magnitudes : List Float) (marks stack : Li
   edges-are out out' p =
       recount (area d) _ _ out out' p
       (λ q l. ap (λ (b : Bool). cond b 255 0) (same-mark q l) ∙ sym (getD-tabulate (area d) (λ (q : ℕ). edge (getD (endOf d t magnitudes .marks) q 0)) 0 q l))
+
+  -- ---- and it is demand 3's: 255 at the joined pixels, 0 elsewhere
+
+  abbrev hi : ℕ → Bool
+  hi = atLeast (t .high) magnitudes
+
+  abbrev lo : ℕ → Bool
+  lo = atLeast (t .low) magnitudes
+
+  told : Tells d hi lo (has 3 (endOf d t magnitudes .marks))
+  unfolding endOf
+  told = finished d t magnitudes (zeros (area d)) (zeros (area d)) zeros-accepted .1
+
+  edge-at : (q : ℕ) → q < area d → getD (edgesOf d t magnitudes) q 0 ≡ edge (getD (endOf d t magnitudes .marks) q 0)
+  unfolding edgesOf
+  edge-at q l = getD-tabulate (area d) (λ (q : ℕ). edge (getD (endOf d t magnitudes .marks) q 0)) 0 q l
+
+  pub edge-on : (q : ℕ) → Joined d hi lo q → getD (edgesOf d t magnitudes) q 0 ≡ 255
+  edge-on q j = edge-at q (way-in d lo (j .way)) ∙ ap (λ (b : Bool). cond b 255 0) (true-is (has 3 (endOf d t magnitudes .marks) q) (told .complete q j))
+
+  pub edge-off : (q : ℕ) → q < area d → (Joined d hi lo q → ⊥) → getD (edgesOf d t magnitudes) q 0 ≡ 0
+  edge-off q l n =
+      edge-at q l
+      ∙ ap (λ (b : Bool). cond b 255 0) (ne-eqb (getD (endOf d t magnitudes .marks) q 0) 3 (λ z. n (told .sound q l (is-true (eq-eqb _ _ z)))))
+
+  is-edge : (b : Bool) → eqb (cond b 255 0) 255 ≡ b
+  is-edge true = refl
+  is-edge false = refl
+
+  pub edges-count : countOf d (edgesOf d t magnitudes) ≡ joinedCount d hi lo
+  unfolding countOf
+  edges-count =
+      tally-eq _ (has 3 (endOf d t magnitudes .marks)) (area d) (λ q l. ap (λ (v : ℕ). eqb v 255) (edge-at q l) ∙ is-edge (has 3 (endOf d t magnitudes .marks) q))
+      ∙ same-count d hi lo (has 3 (endOf d t magnitudes .marks)) (joined d hi lo) told (joined-tells d hi lo)
+      ∙ sym (joined-count d hi lo)
 
 -- ---- the three calls in turn
 

@@ -1,2 +1,3 @@
--- What the stages of a run require and leave.
+-- What the stages of a run require and leave, and DEMAND 1.
 pub mod Lent
+pub mod Demand
