@@ -1,0 +1,4 @@
+-- Laws about this crate's code that several of its proofs cite.
+pub mod Breaches
+pub mod Decimals
+pub mod Writing

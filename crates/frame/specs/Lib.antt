@@ -1,0 +1,2 @@
+-- What this crate's private functions promise.
+pub mod Fitted
