@@ -2,3 +2,6 @@
 pub mod Breaches
 pub mod Decimals
 pub mod Writing
+pub mod Runs
+pub mod Printouts
+pub mod Suffices

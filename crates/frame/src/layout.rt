@@ -1,6 +1,8 @@
 // The frame file's layout: its words, the test for a breach of it, and its f32 values (01.Frame.1 to 01.Frame.6).
 use rules::MAX_FRAME_LENGTH;
 use rules::MAX_FRAME_SIDE;
+use rules::Size;
+use rules::Thresholds;
 ghost use mathlib.Core.Path.{_≡_};
 ghost use Prim.Native.Nat.{_+_, _*_, _≤_, _<_};
 ghost use lib.ListN.{length};
@@ -11,19 +13,19 @@ ghost use Rattle.rules.specs.Frame as frame;
 // The header's bytes, and where each of its words stands that the frame library reads.
 pub(crate) const HEADER_LENGTH: usize = 32;
 
-pub(crate) const WIDTH: usize = 0;
+const WIDTH: usize = 0;
 
-pub(crate) const HEIGHT: usize = 4;
+const HEIGHT: usize = 4;
 
 pub(crate) const TAP_COUNT: usize = 8;
 
 const TAPS_OFFSET: usize = 12;
 
-pub(crate) const PIXEL_OFFSET: usize = 16;
+const PIXEL_OFFSET: usize = 16;
 
-pub(crate) const LOW: usize = 20;
+const LOW: usize = 20;
 
-pub(crate) const HIGH: usize = 24;
+const HIGH: usize = 24;
 
 const LENGTH: usize = 28;
 
@@ -87,5 +89,25 @@ pub(crate) fn decode_taps(file: &[u8], count: usize, taps: &mut [f32])
     while k < count {
         taps[k] = float(word(file, HEADER_LENGTH + 4 * k));
         k += 1;
+    }
+}
+
+pub(crate) fn size_of(file: &[u8]) -> Size
+    requires { ⌜ frame.headerLength ≤ length (now file) ⌝ }
+    ensures { λ r. ⌜ r ≡ frame.frameSize (now (file .entry)) ⌝ }
+{
+    Size {
+        width: wide(file, WIDTH),
+        height: wide(file, HEIGHT),
+    }
+}
+
+pub(crate) fn thresholds_of(file: &[u8]) -> Thresholds
+    requires { ⌜ frame.headerLength ≤ length (now file) ⌝ }
+    ensures { λ r. ⌜ r ≡ frame.thresholdsOf (now (file .entry)) ⌝ }
+{
+    Thresholds {
+        low: float(word(file, LOW)),
+        high: float(word(file, HIGH)),
     }
 }
