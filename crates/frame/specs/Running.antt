@@ -1,11 +1,11 @@
 -- What one run over scratch of its own answers and leaves, and what the functions that make it require.
-use Prim.Native.Nat.{ℕ, _≤_}
+use Prim.Native.Nat.{ℕ, _*_, _≤_}
 use mathlib.Core.Path.{_≡_}
 use mathlib.Core.Bool.{false}
 use mathlib.Core.List.{List}
 use lib.ListN.{length}
 use lib.Ieee.{Float}
-use Rattle.rules.specs.Limits.{maxTaps}
+use Rattle.rules.specs.Limits.{maxTaps, maxFrameSide}
 use Rattle.rules.specs.Picture.{area}
 use Rattle.rules.specs.Refusals.{Scratch}
 use Rattle.rules.specs.Run.{canny}
@@ -21,15 +21,15 @@ shown a = (a .0, a .1 .0)
 unfoldable pub ran : Size → List ℕ → List Float → Thresholds → List ℕ → Counted × List ℕ
 ran d pixels taps t out = shown (canny d pixels taps t (freshScratch d) out)
 
--- 48 by 48 pixels
+-- the pixels of the largest frame
 abbrev pub maxArea : ℕ
-maxArea = 2304
+maxArea = maxFrameSide * maxFrameSide
 
 pub record Sized (d : Size) (map : List ℕ) : Type 0 where
   pub small : area d ≤ maxArea
   pub room : maxArea ≤ length map
 
--- a file that keeps the layout, its tap count, and a map of 48 by 48
+-- a file that keeps the layout, its tap count, and a map of as many entries
 pub record Framed (file : List ℕ) (count : ℕ) (map : List ℕ) : Type 0 where
   pub keeps : breach file ≡ false
   pub counted : count ≡ tapCount file
