@@ -1,0 +1,127 @@
+-- One run: its answer and its map are the same whatever its scratch holds; what is printed for it; what the layout grants it. Assumes nothing.
+use mathlib.Core.Path.{_≡_, refl, sym, ap, _∙_}
+use mathlib.Core.Bool.{Bool, true, false, not, cond}
+use mathlib.Core.List.{List, [], _∷_, _++_}
+use Prim.Native.Nat.{ℕ, _+_, _*_, _/_, _%_, _<_, _≤_}
+use native.Mathlib.Nat.{div-lt-iff-lt-mul}
+use native.Mathlib.Omega.{arith}
+use lib.Dec.{ltb, eqb}
+use lib.ListN.{length, getD}
+use lib.IntN.{pos}
+use lib.Ieee.{Float}
+use borrow.Author.Tests.{le-ltb, ltb-true}
+use Rattle.rules.specs.Limits.{maxTaps}
+use Rattle.rules.specs.Picture.{area, filled}
+use Rattle.rules.specs.Sums.{plusZero}
+use Rattle.rules.specs.Refusals.{Rule, Scratch, first, runRows, sideRow, inputRow, countRow, weightRow, thresholdRow, orderRow, roomRow}
+use Rattle.rules.specs.Run.{canny, runEdges, countOf}
+use Rattle.rules.specs.Frame.{freshScratch, pixelText, newline, edgesText, rowsText, refusedText}
+use Rattle.rules.specs.declared.Size.{Size}
+use Rattle.rules.specs.declared.Thresholds.{Thresholds}
+use Rattle.rules.specs.declared.Counted.{Counted}
+use Rattle.rules.proofs.Fill.{length-tabulate, tabulate-cong, filled-at}
+use Rattle.rules.proofs.Grid.{pixel-in}
+use Rattle.rules.proofs.Rows.{Off}
+use Rattle.rules.proofs.Tallies.{tally-all}
+use Rattle.frame.specs.Running.{shown, ran}
+use Rattle.frame.proofs.Writing.{shownAt, rows-are}
+
+-- ---- tables
+
+-- rows of which none applies change no number
+first-off : (rs bs : List Rule) → Off bs → first (rs ++ bs) ≡ first rs
+first-off [] [] o = refl
+first-off [] (r ∷ bs) o = rw (o .0) (first-off [] bs (o .1))
+first-off (r ∷ rs) bs o = ap (λ (n : ℕ). cond (r .applies) (r .number) n) (first-off rs bs o)
+
+-- ---- a run
+
+module _ (d : Size) (pixels : List ℕ) (taps : List Float) (t : Thresholds) where
+  -- the rows that do not ask for room
+  abbrev pub front : List Rule
+  front = sideRow d ∷ inputRow d pixels ∷ countRow maxTaps (length taps) ∷ weightRow taps ∷ thresholdRow t ∷ orderRow t ∷ []
+
+  -- what is answered and shown where there is room, by the number and whether it is 0
+  abbrev pub pick : Bool → ℕ → List ℕ → Counted × List ℕ
+  pick b n out =
+      cond b
+      (record { refusal = n; count = countOf d (runEdges d pixels taps t) }, filled (area d) (λ q. getD (runEdges d pixels taps t) q 0) out)
+      (record { refusal = n; count = 0 }, out)
+
+  abbrev pub outcome : List ℕ → Counted × List ℕ
+  outcome out = pick (eqb (first front) 0) (first front) out
+
+  pub record Roomy (s : Scratch) (out : List ℕ) : Type 0 where
+    pub work : area d ≤ length (s .work)
+    pub magnitude : area d ≤ length (s .magnitude)
+    pub gx : area d ≤ length (s .gx)
+    pub gy : area d ≤ length (s .gy)
+    pub blurred : area d ≤ length (s .blurred)
+    pub marks : area d ≤ length (s .marks)
+    pub stack : area d ≤ length (s .stack)
+    pub room : area d ≤ length out
+
+  shown-cond : {A B C : Type 0} (b : Bool) (x y : A × (B × C)) → _≡_ {A = A × B} (cond b x y .0, cond b x y .1 .0) (cond b (x .0, x .1 .0) (y .0, y .1 .0))
+  shown-cond true x y = refl
+  shown-cond false x y = refl
+
+  pub any-scratch : (s : Scratch) (out : List ℕ) → Roomy s out → shown (canny d pixels taps t s out) ≡ outcome out
+  unfolding canny
+  any-scratch s out r =
+      shown-cond (eqb (first (runRows d pixels taps t s out)) 0) _ _
+      ∙ ap (λ (n : ℕ). pick (eqb n 0) n out)
+      (first-off front
+      (roomRow d (s .work) ∷ roomRow d (s .magnitude) ∷ roomRow d (s .gx) ∷ roomRow d (s .gy) ∷ roomRow d (s .blurred) ∷ roomRow d (s .marks) ∷ roomRow d (s .stack) ∷ roomRow d out ∷ [])
+      (le-ltb _ _ (r .work), (le-ltb _ _ (r .magnitude), (le-ltb _ _ (r .gx), (le-ltb _ _ (r .gy), (le-ltb _ _ (r .blurred), (le-ltb _ _ (r .marks), (le-ltb _ _ (r .stack), (le-ltb _ _ (r .room), tt)))))))))
+
+  pub ran-is : (out : List ℕ) → area d ≤ length out → ran d pixels taps t out ≡ outcome out
+  unfolding ran
+  ran-is out h =
+      any-scratch (freshScratch d) out
+      (record {
+        work = omega (arith, length-tabulate (area d) (λ i. plusZero));
+        magnitude = omega (arith, length-tabulate (area d) (λ i. plusZero));
+        gx = omega (arith, length-tabulate (area d) (λ i. pos 0));
+        gy = omega (arith, length-tabulate (area d) (λ i. pos 0));
+        blurred = omega (arith, length-tabulate {A = ℕ} (area d) (λ i. 0));
+        marks = omega (arith, length-tabulate {A = ℕ} (area d) (λ i. 0));
+        stack = omega (arith, length-tabulate {A = ℕ} (area d) (λ i. 0));
+        room = h;
+      })
+
+  -- ---- what is printed for it
+
+  abbrev pub textOf : Counted × List ℕ → List ℕ
+  textOf x = cond (eqb (x .0 .refusal) 0) (edgesText d (x .0 .count) ++ rowsText d (x .1)) (refusedText (x .0 .refusal))
+
+  -- the rows show the first width * height entries alone
+  rows-same : (f : ℕ → ℕ) (a b : List ℕ) → rowsText d (filled (area d) f a) ≡ rowsText d (filled (area d) f b)
+  rows-same f a b =
+      rows-are d (filled (area d) f a)
+      ∙ tabulate-cong (d .height * (d .width + 1)) (shownAt d (filled (area d) f a)) (shownAt d (filled (area d) f b)) (λ i h. go i h (ltb (i % (d .width + 1)) (d .width)) refl)
+      ∙ sym (rows-are d (filled (area d) f b))
+    where
+      go : (i : ℕ) → i < d .height * (d .width + 1) → (c : Bool) → ltb (i % (d .width + 1)) (d .width) ≡ c
+          → cond c (pixelText (getD (filled (area d) f a) (i / (d .width + 1) * d .width + i % (d .width + 1)) 0)) newline
+          ≡ cond c (pixelText (getD (filled (area d) f b) (i / (d .width + 1) * d .width + i % (d .width + 1)) 0)) newline
+      go i h true e =
+          let line : 0 < d .width + 1 = omega arith in
+          let q = pixel-in d (i % (d .width + 1)) (i / (d .width + 1)) (ltb-true _ _ e) (div-lt-iff-lt-mul line .1 h) in
+          ap pixelText (filled-at (area d) f a (filled (area d) f a) 0 _ refl q ∙ sym (filled-at (area d) f b (filled (area d) f b) 0 _ refl q))
+      go i h false e = refl
+
+  pub text-same : (a b : List ℕ) → textOf (outcome a) ≡ textOf (outcome b)
+  text-same a b = go (eqb (first front) 0) refl
+    where
+      go : (c : Bool) → eqb (first front) 0 ≡ c → textOf (pick c (first front) a) ≡ textOf (pick c (first front) b)
+      go true e = ap (λ (r : List ℕ). cond (eqb (first front) 0) (edgesText d (countOf d (runEdges d pixels taps t)) ++ r) (refusedText (first front))) (rows-same (λ q. getD (runEdges d pixels taps t) q 0) a b)
+      go false e = rw e
+
+  -- a run counts at most its pixels
+  pub count-few : (out : List ℕ) → outcome out .0 .count ≤ area d
+  unfolding countOf
+  count-few out = go (eqb (first front) 0)
+    where
+      go : (c : Bool) → pick c (first front) out .0 .count ≤ area d
+      go true = tally-all _ (area d)
+      go false = omega arith

@@ -1,0 +1,65 @@
+-- `run` meets its contract: the whole run answers the same whatever its scratch holds. Assumes nothing.
+use mathlib.Core.Path.{sym, ap, _∙_}
+use Prim.Native.Nat.{_≤_}
+use denote.Ref.{now}
+use lib.ListN.{length}
+use Rattle.rules.specs.Picture.{area}
+use Rattle.frame.specs.Running.{shown}
+use Rattle.frame.proofs.Runs.{any-scratch, ran-is}
+use borrow.Author.Needs.{needs}
+use native.Mathlib.Omega.{arith}
+use Rattle.frame.proofs.running.run.Statement.{statement}
+use Rattle.frame.proofs.running.run.Tie as tie
+
+slice-aggregate-canny : tie.Need-slice-aggregate-canny
+slice-aggregate-canny c = search needs
+
+slice-aggregate-canny-2 : tie.Need-slice-aggregate-canny-2
+slice-aggregate-canny-2 c = search needs
+
+slice-aggregate-canny-3 : tie.Need-slice-aggregate-canny-3
+slice-aggregate-canny-3 c = search needs
+
+slice-aggregate-canny-4 : tie.Need-slice-aggregate-canny-4
+slice-aggregate-canny-4 c = search needs
+
+slice-aggregate-canny-5 : tie.Need-slice-aggregate-canny-5
+slice-aggregate-canny-5 c = search needs
+
+slice-aggregate-canny-6 : tie.Need-slice-aggregate-canny-6
+slice-aggregate-canny-6 c = search needs
+
+slice-aggregate-canny-7 : tie.Need-slice-aggregate-canny-7
+slice-aggregate-canny-7 c = search needs
+
+canny-requires : tie.Need-canny-requires
+canny-requires c κs = search needs
+
+same-length : tie.Need-same-length
+same-length c = search needs
+
+returns : tie.Need-returns
+returns c =
+    let s = c .before .before .before .before .before .before .before .before .before .before .before .before .before .before .before .before .before .before .before .before .before in
+    let a = s .args in
+    let h = s .pre .small in
+    let m : area (a .size) ≤ length (now (a .map)) = omega (arith, h, s .pre .room) in
+    ap shown (c .before .before .before .before .before .before .before .before .before .canny .ensures)
+    ∙ any-scratch (a .size) (now (a .pixels)) (now (a .taps)) (a .thresholds) _ (now (a .map))
+    (record { work = h; magnitude = h; gx = h; gy = h; blurred = h; marks = h; stack = h; room = m })
+    ∙ sym (ran-is (a .size) (now (a .pixels)) (now (a .taps)) (a .thresholds) (now (a .map)) m)
+
+pub run-spec : {M : Type 1} → statement M
+run-spec =
+    tie.close
+    (tie.spec
+    slice-aggregate-canny
+    slice-aggregate-canny-2
+    slice-aggregate-canny-3
+    slice-aggregate-canny-4
+    slice-aggregate-canny-5
+    slice-aggregate-canny-6
+    slice-aggregate-canny-7
+    canny-requires
+    same-length
+    returns)

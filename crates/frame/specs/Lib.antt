@@ -1,0 +1,3 @@
+-- What this crate's private functions require and promise.
+pub mod Fitted
+pub mod Running
