@@ -27,14 +27,7 @@ pub(crate) fn run() {
     case(b"zero -1 of 3", -1, 3, BorderMode::Zero, 1000);
     case(b"zero 2 of 3", 2, 3, BorderMode::Zero, 2);
     case(b"zero 3 of 3", 3, 3, BorderMode::Zero, 1000);
-    extremes();
-    case(b"side 640", 639, 640, BorderMode::Mirror, 639);
-    case(b"side 641", 0, 641, BorderMode::Mirror, 2000);
-    case(b"side 0", 0, 0, BorderMode::Zero, 2000);
-}
-
-// -2^63 is 0 by 4, and 2^63 - 1 is 3, which the fold brings to 1.
-fn extremes() {
+    // -2^63 is 0 by 4, and 2^63 - 1 is 3, which the fold brings to 1.
     let least = -9223372036854775807i64 - 1;
     let most = 9223372036854775807i64;
     case(b"mirror -2^63 of 3", least, 3, BorderMode::Mirror, 0);
@@ -42,4 +35,7 @@ fn extremes() {
     case(b"clamp -2^63 of 3", least, 3, BorderMode::Clamp, 0);
     case(b"clamp 2^63 - 1 of 3", most, 3, BorderMode::Clamp, 2);
     case(b"zero -2^63 of 3", least, 3, BorderMode::Zero, 1000);
+    case(b"side 640", 639, 640, BorderMode::Mirror, 639);
+    case(b"side 641", 0, 641, BorderMode::Mirror, 2000);
+    case(b"side 0", 0, 0, BorderMode::Zero, 2000);
 }

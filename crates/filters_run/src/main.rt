@@ -4,6 +4,12 @@ mod borders;
 mod kernels;
 mod separable;
 
+use rules::Size;
+
+pub(crate) fn size(width: usize, height: usize) -> Size {
+    Size { width, height }
+}
+
 fn main() {
     borders::run();
     kernels::run();

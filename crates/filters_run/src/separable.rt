@@ -1,5 +1,6 @@
 // Separable kernels, the blur and the box: 01's row, the f32 sums between the passes, the work buffer, and each refusal with both buffers
 // compared before and after.
+use crate::size;
 use filters::box_blur::BoxBlurFilter;
 use filters::convolution::apply_separable_kernel;
 use filters::gaussian::gaussian_blur;
@@ -7,25 +8,25 @@ use rules::BorderMode;
 use rules::SeparableKernel;
 use rules::Size;
 
-fn size(width: usize, height: usize) -> Size {
-    Size { width, height }
-}
-
 pub(crate) fn run() {
-    row(b"row 10 20 30, Clamp", BorderMode::Clamp, &[20, 30, 30, 7]);
-    row(
-        b"row 10 20 30, Mirror",
-        BorderMode::Mirror,
-        &[20, 30, 20, 7],
-    );
-    row(b"row 10 20 30, Zero", BorderMode::Zero, &[20, 30, 0, 7]);
+    row(b"row 10 20 30, Clamp", BorderMode::Clamp, [20, 30, 30, 7]);
+    row(b"row 10 20 30, Mirror", BorderMode::Mirror, [20, 30, 20, 7]);
+    row(b"row 10 20 30, Zero", BorderMode::Zero, [20, 30, 0, 7]);
     between();
     overflowed();
     boxed();
+    boxed_zero();
+    box_refused(b"box, 641 high", size(3, 641), 1);
+    box_refused(b"box, nine pixels for six", size(3, 2), 2);
+    box_short();
+    wrong_taps(b"65 taps", 65);
+    wrong_taps(b"64 taps", 64);
+    wrong_taps(b"no taps", 0);
     most_taps();
     blur_refused();
     separable_refused();
-    no_pixels();
+    no_pixels(b"blur of 0 by 9", size(0, 9));
+    no_pixels(b"blur of 9 by 0", size(9, 0));
 }
 
 // The first n entries of a work buffer are +0, whatever they held, and the next one is kept.
@@ -41,7 +42,7 @@ fn cleared(work: &[f32], n: usize) {
 }
 
 // Horizontal taps 1 0 0, vertical 1.
-fn row(name: &[u8], border: BorderMode, wanted: &[u8]) {
+fn row(name: &[u8], border: BorderMode, wanted: [u8; 4]) {
     let mut work = [report::nan(); 4];
     let mut out = [7u8; 4];
     let kernel = SeparableKernel {
@@ -59,7 +60,7 @@ fn row(name: &[u8], border: BorderMode, wanted: &[u8]) {
         &mut out,
     );
     report::number(name, got as u64, 0);
-    report::bytes(b"  its bytes", &out, wanted);
+    report::bytes(b"  its bytes", &out, &wanted);
     cleared(&work, 3);
 }
 
@@ -105,10 +106,9 @@ fn overflowed() {
 
 // Nine equal bytes stay; under Zero the corners have four of nine.
 fn boxed() {
-    let pixels = [90u8; 9];
     let mut work = [report::nan(); 10];
     let mut out = [7u8; 10];
-    let got = BoxBlurFilter::new().apply(&pixels, size(3, 3), &mut work, &mut out);
+    let got = BoxBlurFilter::new().apply(&[90; 9], size(3, 3), &mut work, &mut out);
     report::number(b"box with Clamp", got as u64, 0);
     report::bytes(
         b"  its bytes",
@@ -116,32 +116,45 @@ fn boxed() {
         &[90, 90, 90, 90, 90, 90, 90, 90, 90, 7],
     );
     cleared(&work, 9);
+}
+
+fn boxed_zero() {
+    let mut work = [0.0f32; 10];
+    let mut out = [7u8; 10];
     let zero = BoxBlurFilter::with_border(BorderMode::Zero);
-    let got = zero.apply(&pixels, size(3, 3), &mut work, &mut out);
+    let got = zero.apply(&[90; 9], size(3, 3), &mut work, &mut out);
     report::number(b"box with Zero", got as u64, 0);
     report::bytes(
         b"  its bytes",
         &out,
         &[40, 60, 40, 60, 90, 60, 40, 60, 40, 7],
     );
-    box_refused();
 }
 
-fn box_refused() {
-    let pixels = [90u8; 9];
-    let mut full = [1.0f32; 9];
-    let mut kept_out = [7u8; 9];
-    let filter = BoxBlurFilter::new();
-    let got = filter.apply(&pixels, size(3, 641), &mut full, &mut kept_out);
-    kept(b"box, 641 high", got, 1, &full, &kept_out);
-    let got = filter.apply(&pixels, size(3, 2), &mut full, &mut kept_out);
-    kept(b"box, nine pixels for six", got, 2, &full, &kept_out);
+fn box_case(name: &[u8], size: Size, work: &mut [f32], out: &mut [u8], wanted: u8) {
+    let got = BoxBlurFilter::new().apply(&[90; 9], size, work, out);
+    kept(name, got, wanted, work, out);
+}
+
+fn box_refused(name: &[u8], size: Size, wanted: u8) {
+    let mut work = [1.0f32; 9];
+    let mut out = [7u8; 9];
+    box_case(name, size, &mut work, &mut out, wanted);
+}
+
+fn box_short() {
+    let mut work = [1.0f32; 9];
+    let mut out = [7u8; 9];
     let mut few_sums = [1.0f32; 8];
-    let got = filter.apply(&pixels, size(3, 3), &mut few_sums, &mut kept_out);
-    kept(b"box, work for eight", got, 7, &few_sums, &kept_out);
     let mut few = [7u8; 8];
-    let got = filter.apply(&pixels, size(3, 3), &mut full, &mut few);
-    kept(b"box, room for eight", got, 7, &full, &few);
+    box_case(
+        b"box, work for eight",
+        size(3, 3),
+        &mut few_sums,
+        &mut out,
+        7,
+    );
+    box_case(b"box, room for eight", size(3, 3), &mut work, &mut few, 7);
 }
 
 fn kept(name: &[u8], got: u8, wanted: u8, work: &[f32], out: &[u8]) {
@@ -153,41 +166,30 @@ fn kept(name: &[u8], got: u8, wanted: u8, work: &[f32], out: &[u8]) {
 }
 
 // 63 taps pass and 65 give 3.
-fn most_taps() {
+fn wrong_taps(name: &[u8], n: usize) {
     let taps = [0.0f32; 65];
+    let mut work = [1.0f32; 1];
+    let mut out = [7u8; 1];
+    if n <= 65 {
+        let got = gaussian_blur(
+            &[200],
+            size(1, 1),
+            &taps[0..n],
+            BorderMode::Mirror,
+            &mut work,
+            &mut out,
+        );
+        kept(name, got, 3, &work, &out);
+    }
+}
+
+fn most_taps() {
     let mut work = [1.0f32; 1];
     let mut out = [7u8; 1];
     let got = gaussian_blur(
         &[200],
         size(1, 1),
-        &taps,
-        BorderMode::Mirror,
-        &mut work,
-        &mut out,
-    );
-    kept(b"65 taps", got, 3, &work, &out);
-    let got = gaussian_blur(
-        &[200],
-        size(1, 1),
-        &taps[..64],
-        BorderMode::Mirror,
-        &mut work,
-        &mut out,
-    );
-    kept(b"64 taps", got, 3, &work, &out);
-    let got = gaussian_blur(
-        &[200],
-        size(1, 1),
-        &taps[..0],
-        BorderMode::Mirror,
-        &mut work,
-        &mut out,
-    );
-    kept(b"no taps", got, 3, &work, &out);
-    let got = gaussian_blur(
-        &[200],
-        size(1, 1),
-        &taps[..63],
+        &[0.0; 63],
         BorderMode::Mirror,
         &mut work,
         &mut out,
@@ -196,40 +198,36 @@ fn most_taps() {
     report::bytes(b"  its byte", &out, &[0]);
 }
 
-// One pixel, one tap: refusals by order.
-fn blur_case(name: &[u8], pixels: &[u8], width: usize, taps: &[f32], wanted: u8) {
+// The first n of three pixels, the first so many of two taps, a height of 2, and room for one: refusals by order.
+fn blur_case(name: &[u8], n: usize, width: usize, count: usize, taps: [f32; 2], wanted: u8) {
+    let pixels = [1u8, 2, 3];
     let mut work = [1.0f32; 1];
     let mut out = [7u8; 1];
-    let got = gaussian_blur(
-        pixels,
-        size(width, 2),
-        taps,
-        BorderMode::Clamp,
-        &mut work,
-        &mut out,
-    );
-    kept(name, got, wanted, &work, &out);
+    if n <= 3 {
+        if count <= 2 {
+            let got = gaussian_blur(
+                &pixels[0..n],
+                size(width, 2),
+                &taps[0..count],
+                BorderMode::Clamp,
+                &mut work,
+                &mut out,
+            );
+            kept(name, got, wanted, &work, &out);
+        }
+    }
 }
 
 fn blur_refused() {
-    blur_case(b"side 641 with NaN taps", &[1, 2], 641, &[report::nan()], 1);
-    blur_case(
-        b"three pixels for two, an even count",
-        &[1, 2, 3],
-        1,
-        &[1.0, 1.0],
-        2,
-    );
-    blur_case(b"two taps, one NaN", &[1, 2], 1, &[1.0, report::nan()], 3);
-    blur_case(b"a NaN tap, no room", &[1, 2], 1, &[report::nan()], 4);
-    blur_case(
-        b"an infinite tap, no room",
-        &[1, 2],
-        1,
-        &[-report::infinity()],
-        4,
-    );
-    blur_case(b"no room", &[1, 2], 1, &[1.0], 7);
+    let one = [1.0, 1.0];
+    let bad = [report::nan(), 1.0];
+    let infinite = [-report::infinity(), 1.0];
+    blur_case(b"side 641 with NaN taps", 2, 641, 1, bad, 1);
+    blur_case(b"three pixels for two, an even count", 3, 1, 2, one, 2);
+    blur_case(b"two taps, one NaN", 2, 1, 2, bad, 3);
+    blur_case(b"a NaN tap, no room", 2, 1, 1, bad, 4);
+    blur_case(b"an infinite tap, no room", 2, 1, 1, infinite, 4);
+    blur_case(b"no room", 2, 1, 1, one, 7);
 }
 
 fn separable_case(
@@ -259,38 +257,44 @@ fn separable_case(
     kept(name, got, wanted, &work, &out);
 }
 
+// So many taps each way, told as `across` and `down`.
+fn counted(name: &[u8], across: usize, down: usize, horizontal: usize, vertical: usize) {
+    let ones = [1.0f32; 65];
+    let three = [1.0f32; 3];
+    if horizontal <= 65 {
+        if vertical <= 3 {
+            separable_case(
+                name,
+                across,
+                down,
+                &ones[0..horizontal],
+                &three[0..vertical],
+                3,
+            );
+        }
+    }
+}
+
+// One tap each way.
+fn single(name: &[u8], horizontal: f32, vertical: f32, wanted: u8) {
+    separable_case(name, 1, 1, &[horizontal], &[vertical], wanted);
+}
+
 fn separable_refused() {
-    let one = [1.0f32; 1];
-    separable_case(b"0 taps across", 0, 1, &[], &one, 3);
-    separable_case(b"2 taps down", 1, 2, &one, &[1.0, 1.0], 3);
-    separable_case(b"65 taps across", 65, 1, &[0.0; 65], &one, 3);
-    separable_case(b"3 taps across told as 1", 1, 1, &[1.0, 1.0, 1.0], &one, 3);
-    separable_case(b"3 taps down told as 1", 1, 1, &one, &[1.0, 1.0, 1.0], 3);
-    separable_case(b"a NaN down", 1, 1, &one, &[report::nan()], 4);
-    separable_case(b"an infinity across", 1, 1, &[report::infinity()], &one, 4);
-    separable_case(b"room for one", 1, 1, &one, &one, 7);
+    counted(b"0 taps across", 0, 1, 0, 1);
+    counted(b"2 taps down", 1, 2, 1, 2);
+    counted(b"65 taps across", 65, 1, 65, 1);
+    counted(b"3 taps across told as 1", 1, 1, 3, 1);
+    counted(b"3 taps down told as 1", 1, 1, 1, 3);
+    single(b"a NaN down", 1.0, report::nan(), 4);
+    single(b"an infinity across", report::infinity(), 1.0, 4);
+    single(b"room for one", 1.0, 1.0, 7);
 }
 
 // A side of 0 changes nothing, the work buffer neither.
-fn no_pixels() {
+fn no_pixels(name: &[u8], size: Size) {
     let mut work = [1.0f32; 2];
     let mut out = [7u8; 2];
-    let got = gaussian_blur(
-        &[],
-        size(0, 9),
-        &[1.0],
-        BorderMode::Zero,
-        &mut work,
-        &mut out,
-    );
-    kept(b"blur of 0 by 9", got, 0, &work, &out);
-    let got = gaussian_blur(
-        &[],
-        size(9, 0),
-        &[1.0],
-        BorderMode::Zero,
-        &mut work,
-        &mut out,
-    );
-    kept(b"blur of 9 by 0", got, 0, &work, &out);
+    let got = gaussian_blur(&[], size, &[1.0], BorderMode::Zero, &mut work, &mut out);
+    kept(name, got, 0, &work, &out);
 }

@@ -2,6 +2,22 @@
 // stdout, so a line whose two sides differ, or that changes, fails the gate. No contract can speak of what is written.
 use libc::STDOUT_FILENO;
 
+// A line of words alone, over a group of lines.
+pub fn heading(text: &[u8]) {
+    words(text);
+    words(b"\n");
+}
+
+// The beginning of a line, whose `name` is then the rest: words, or words and a number.
+pub fn words(text: &[u8]) {
+    io::write_all(STDOUT_FILENO, text);
+}
+
+pub fn part(text: &[u8], value: u64) {
+    words(text);
+    io::print_decimal(STDOUT_FILENO, value);
+}
+
 // A number.
 pub fn number(name: &[u8], got: u64, wanted: u64) {
     io::write_all(STDOUT_FILENO, name);
@@ -15,6 +31,12 @@ pub fn number(name: &[u8], got: u64, wanted: u64) {
 // A test that is wanted to pass: 1 is yes.
 pub fn yes(name: &[u8], got: bool) {
     number(name, if got { 1 } else { 0 }, 1);
+}
+
+// A call that changes nothing: its number, and its output of sevens.
+pub fn kept(name: &[u8], got: u8, wanted: u8, out: &[u8]) {
+    number(name, got as u64, wanted as u64);
+    yes(b"  the output kept", all_are(out, 7));
 }
 
 // Bytes, in decimal.
@@ -38,6 +60,36 @@ fn decimals(values: &[u8]) {
 fn decimal(value: u8) {
     io::write_all(STDOUT_FILENO, b" ");
     io::print_decimal(STDOUT_FILENO, value as u64);
+}
+
+// Signed numbers, in decimal.
+pub fn numbers(name: &[u8], got: &[i16], wanted: &[i16]) {
+    io::write_all(STDOUT_FILENO, name);
+    io::write_all(STDOUT_FILENO, b": got");
+    signed_decimals(got);
+    io::write_all(STDOUT_FILENO, b" wanted");
+    signed_decimals(wanted);
+    io::write_all(STDOUT_FILENO, b"\n");
+}
+
+fn signed_decimals(values: &[i16]) {
+    let mut i = 0;
+    while i < values.len() {
+        signed_decimal(values[i]);
+        i += 1;
+    }
+}
+
+// 2^23 and a small whole number are a float whose low 23 bits are that number: no signed number is cast to an unsigned one.
+fn signed_decimal(value: i16) {
+    let exact = value as f32;
+    if exact < 0.0 {
+        io::write_all(STDOUT_FILENO, b" -");
+        io::print_decimal(STDOUT_FILENO, (bits(8388608.0 - exact) % 8388608) as u64);
+    } else {
+        io::write_all(STDOUT_FILENO, b" ");
+        io::print_decimal(STDOUT_FILENO, (bits(8388608.0 + exact) % 8388608) as u64);
+    }
 }
 
 // A float, by its bits.
@@ -87,6 +139,17 @@ pub fn floats_are(buffer: &[f32], v: f32) -> bool {
     let mut i = 0;
     while i < buffer.len() {
         same = same & (bits(buffer[i]) == bits(v));
+        i += 1;
+    }
+    same
+}
+
+// Whether every signed number is v.
+pub fn numbers_are(buffer: &[i16], v: i16) -> bool {
+    let mut same = true;
+    let mut i = 0;
+    while i < buffer.len() {
+        same = same & (buffer[i] == v);
         i += 1;
     }
     same
