@@ -63,7 +63,7 @@ fn room(lent: Lent, which: usize, whole: usize) -> usize
 }
 
 // One call over the lent parts of the buffers: this lends the first four, the next the others.
-fn lend(
+pub(crate) fn lend(
     pixels: &[u8],
     size: Size,
     taps: &[f32],
@@ -135,7 +135,7 @@ fn lend_others(
 }
 
 // The seven scratch buffers: zero in the first n entries, poison past them.
-fn scratch(
+pub(crate) fn scratch(
     n: usize,
     poison: Poison,
     work: &[f32],
@@ -206,7 +206,7 @@ pub(crate) fn call(
     map
 }
 
-fn counted(name: &[u8], got: Counted, wanted: Counted) {
+pub(crate) fn counted(name: &[u8], got: Counted, wanted: Counted) {
     report::number(name, got.refusal as u64, wanted.refusal as u64);
     report::number(b"  count", got.count as u64, wanted.count as u64);
 }

@@ -4,8 +4,10 @@ mod buffers;
 mod lines;
 mod maps;
 mod refused;
+mod stopped;
 
 fn main() {
     maps::run();
+    stopped::run();
     refused::run();
 }
