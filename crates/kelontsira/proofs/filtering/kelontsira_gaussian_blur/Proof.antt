@@ -1,0 +1,28 @@
+-- `kelontsira_gaussian_blur` equals the call it wraps: an unknown mode is refused, a known one handed on. Assumes nothing.
+use borrow.Author.Needs.{needs}
+use Rattle.kelontsira.proofs.Modes.{unknown, known}
+use Rattle.kelontsira.proofs.filtering.kelontsira_gaussian_blur.Statement.{statement}
+use Rattle.kelontsira.proofs.filtering.kelontsira_gaussian_blur.Tie as tie
+
+returns : tie.Need-returns
+returns c = unknown _ _ _ (c .if1 .taken)
+
+mode-of-requires : tie.Need-mode-of-requires
+mode-of-requires c κs = search needs
+
+gaussian-blur-requires : tie.Need-gaussian-blur-requires
+gaussian-blur-requires c κs = search needs
+
+same-length : tie.Need-same-length
+same-length c = search needs
+
+same-length-2 : tie.Need-same-length-2
+same-length-2 c = search needs
+
+returns-2 : tie.Need-returns-2
+returns-2 c = known _ _ _ _ _ (c .before .before .before .before .before .before .before .before .if1 .left) (c .before .before .before .before .before .before .before .mode-of .ensures) (c .before .before .before .before .gaussian-blur .ensures)
+
+pub kelontsira-gaussian-blur-spec : {M : Type 1} → statement M
+kelontsira-gaussian-blur-spec =
+    tie.close
+    (tie.spec returns mode-of-requires gaussian-blur-requires same-length same-length-2 returns-2)

@@ -1,0 +1,24 @@
+-- `kelontsira_median` equals the call it wraps: an unknown mode is refused, a known one handed on. Assumes nothing.
+use borrow.Author.Needs.{needs}
+use Rattle.kelontsira.proofs.Modes.{unknown, known}
+use Rattle.kelontsira.proofs.filtering.kelontsira_median.Statement.{statement}
+use Rattle.kelontsira.proofs.filtering.kelontsira_median.Tie as tie
+
+returns : tie.Need-returns
+returns c = unknown _ _ _ (c .if1 .taken)
+
+mode-of-requires : tie.Need-mode-of-requires
+mode-of-requires c κs = search needs
+
+apply-requires : tie.Need-apply-requires
+apply-requires c κs = search needs
+
+same-length : tie.Need-same-length
+same-length c = search needs
+
+returns-2 : tie.Need-returns-2
+returns-2 c = known _ _ _ _ _ (c .before .before .before .before .before .if1 .left) (c .before .before .before .before .mode-of .ensures) (c .before .before .apply .ensures)
+
+pub kelontsira-median-spec : {M : Type 1} → statement M
+kelontsira-median-spec =
+    tie.close (tie.spec returns mode-of-requires apply-requires same-length returns-2)
