@@ -61,14 +61,16 @@ extern "C" {
  * KELONTSIRA_ZERO). Refusals: 255, 1. */
 uint8_t kelontsira_resolve_coord(int64_t coord, size_t side, uint8_t border, size_t *place);
 
-/* Convolution with a kernel of odd sides 1 to 15, its kernel_width * kernel_height weights in row order. Each output is a sum of f32
- * products in one order, rounded to the nearest byte. Refusals: 255, 1, 2, 3, 4, 7. */
+/* Convolution with a kernel of odd sides 1 to 15, its kernel_width * kernel_height weights in row order. The kernel is flipped both ways:
+ * its last weight meets the sample above and to the left. Each output is a sum of f32 products in one order, made a byte: the nearest whole
+ * number, halves upwards, held to 0..255; a NaN gives 0. Refusals: 255, 1, 2, 3, 4, 7. */
 uint8_t kelontsira_apply_kernel(const uint8_t *pixels, size_t pixels_length, size_t width, size_t height, size_t kernel_width,
                                 size_t kernel_height, const float *weights, size_t weights_length, uint8_t border, uint8_t *out,
                                 size_t out_length);
 
-/* Convolution with a row of taps and then a column of taps, odd counts 1 to 63. Between the two the sums stay f32 in `work`, of at
- * least width * height entries, whose first width * height are +0 afterwards. Refusals: 255, 1, 2, 3, 4, 7 (work or out). */
+/* Convolution with a row of taps and then a column of taps, odd counts 1 to 63, both flipped. Between the two the sums stay f32 in `work`,
+ * of at least width * height entries, whose first width * height are +0 afterwards; what they held is never read. The column's sums are
+ * made bytes as above. Refusals: 255, 1, 2, 3, 4, 7 (work or out). */
 uint8_t kelontsira_apply_separable_kernel(const uint8_t *pixels, size_t pixels_length, size_t width, size_t height,
                                           size_t horizontal_taps, size_t vertical_taps, const float *horizontal,
                                           size_t horizontal_length, const float *vertical, size_t vertical_length, uint8_t border,
@@ -123,14 +125,15 @@ uint8_t kelontsira_non_maximum_suppression(const float *magnitude, size_t magnit
 /* ---- The walk, which joins weak pixels to strong ones. Its state is three numbers, and marks and stack of width * height entries
  * each, all kept by the caller from the start to the map and changed by no one else. */
 
-/* Classes each magnitude by the thresholds; the strong ones are pending. Writes the state's three numbers.
+/* Classes each magnitude: at or above `high` it is pending, mark 2; else at or above `low` weak, mark 1; else mark 0, a NaN too. Writes the
+ * state's three numbers, and the first width * height marks and stack entries: the pending pixels' indexes in row order, then 0.
  * Refusals: 1, 2, 5, 6, 7 (marks or stack). */
 uint8_t kelontsira_start(const float *magnitudes, size_t magnitudes_length, size_t width, size_t height, float low, float high,
                          uint8_t *marks, size_t marks_length, uint32_t *stack, size_t stack_length, size_t *walk_width,
                          size_t *walk_height, size_t *walk_pending);
 
-/* Takes up to `budget` pixels off the stack; *takes says how many. The walk has ended when *walk_pending is 0. The three numbers are
- * read and written. Refusals: 1, 7, 8, 9. */
+/* Takes up to `budget` pixels off the stack; *takes says how many. A pixel taken gets mark 3, and its weak neighbours become pending. The
+ * walk has ended when *walk_pending is 0. The three numbers are read and written. Refusals: 1, 7, 8, 9. */
 uint8_t kelontsira_slice(size_t *walk_width, size_t *walk_height, size_t *walk_pending, size_t budget, uint8_t *marks,
                          size_t marks_length, uint32_t *stack, size_t stack_length, size_t *takes);
 
