@@ -1,0 +1,161 @@
+//! The whole run: the vendor's taps of a sigma beside its whole run, and taps of any kind beside its stages one after another.
+
+use crate::lent::Lent;
+use crate::numbers;
+use crate::ours::{self, Frame, Scratch};
+use crate::pictures::{digits, list, Picture};
+use crate::random::Random;
+use crate::runner::{Case, Stage};
+use crate::vendor;
+
+use super::{accepted, same_bytes, RANDOM};
+
+pub struct Canny;
+
+#[derive(Clone)]
+pub struct Run {
+    picture: Picture,
+    taps: Vec<f32>,
+    /// The sigma whose taps these are, if any.
+    sigma: Option<f32>,
+    low: f32,
+    high: f32,
+}
+
+/// All 4 by 3 of black and white.
+const BLACK_AND_WHITE: usize = 4096;
+
+/// A sigma of 63 taps.
+const WIDEST: f32 = 10.333_333;
+
+impl Stage for Canny {
+    type Case = Run;
+
+    fn name(&self) -> &'static str {
+        "canny"
+    }
+
+    fn count(&self, factor: usize) -> usize {
+        BLACK_AND_WHITE + Picture::tiny_count() + RANDOM * factor
+    }
+
+    fn case(&self, index: usize, random: &mut Random) -> Run {
+        let tiny = BLACK_AND_WHITE + Picture::tiny_count();
+        let picture = if index < BLACK_AND_WHITE {
+            let pixels = digits(index, 2, 12).iter().map(|&d| [0, 255][d]).collect();
+            Picture { width: 4, height: 3, pixels }
+        } else if index < tiny {
+            Picture::tiny(index - BLACK_AND_WHITE)
+        } else {
+            Picture::random(index - tiny, random)
+        };
+        let (low, high) = numbers::thresholds(random);
+        // The first random picture, of the greatest sides, is blurred with the most taps.
+        if index != tiny && random.once_in(3) {
+            return Run { picture, taps: any_taps(random), sigma: None, low, high };
+        }
+        let sigma = if index == tiny { WIDEST } else { numbers::sigma(random) };
+        Run { picture, taps: vendor::taps(sigma).expect("taps of an ordinary sigma"), sigma: Some(sigma), low, high }
+    }
+}
+
+fn any_taps(random: &mut Random) -> Vec<f32> {
+    if random.once_in(3) {
+        return vec![1.0];
+    }
+    let count = numbers::odd(63, random);
+    numbers::weights(count, random)
+}
+
+/// The seven scratch buffers, poisoned.
+struct Room {
+    work: Lent<f32>,
+    magnitude: Lent<f32>,
+    gx: Lent<i16>,
+    gy: Lent<i16>,
+    blurred: Lent<u8>,
+    marks: Lent<u8>,
+    stack: Lent<u32>,
+}
+
+impl Room {
+    fn poisoned(n: usize, random: &mut Random) -> Room {
+        Room {
+            work: Lent::roomy(n, random),
+            magnitude: Lent::roomy(n, random),
+            gx: Lent::roomy(n, random),
+            gy: Lent::roomy(n, random),
+            blurred: Lent::roomy(n, random),
+            marks: Lent::roomy(n, random),
+            stack: Lent::roomy(n, random),
+        }
+    }
+
+    fn lend(&mut self) -> Scratch<'_> {
+        Scratch {
+            work: self.work.lend_mut(),
+            magnitude: self.magnitude.lend_mut(),
+            gx: self.gx.lend_mut(),
+            gy: self.gy.lend_mut(),
+            blurred: self.blurred.lend_mut(),
+            marks: self.marks.lend_mut(),
+            stack: self.stack.lend_mut(),
+        }
+    }
+
+    fn zeroed(&self, n: usize) -> Result<(), String> {
+        self.work.zeroed(n, "work")?;
+        self.magnitude.zeroed(n, "magnitude")?;
+        self.gx.zeroed(n, "gx")?;
+        self.gy.zeroed(n, "gy")?;
+        self.blurred.zeroed(n, "blurred")?;
+        self.marks.zeroed(n, "marks")?;
+        self.stack.zeroed(n, "stack")
+    }
+}
+
+impl Case for Run {
+    fn compare(&self, random: &mut Random) -> Result<u64, String> {
+        let n = self.picture.area();
+        let pixels = Lent::holding(&self.picture.pixels, random);
+        let taps = Lent::holding(&self.taps, random);
+        let mut room = Room::poisoned(n, random);
+        let mut map = Lent::<u8>::roomy(n, random);
+        let mut count = random.next() as usize;
+        let frame = Frame {
+            pixels: pixels.lend(),
+            sides: self.picture.sides(),
+            taps: taps.lend(),
+            thresholds: (self.low, self.high),
+        };
+        accepted(ours::canny(&frame, room.lend(), map.lend_mut(), &mut count))?;
+        pixels.unchanged("pixels")?;
+        taps.unchanged("taps")?;
+        room.zeroed(n)?;
+        map.same_outside(n, "map")?;
+        same_bytes(map.first(n), self.vendors())?;
+        let edges = map.first(n).iter().filter(|&&b| b == 255).count();
+        if count != edges {
+            return Err(format!("ours counts {count}, the map has {edges}"));
+        }
+        Ok(1)
+    }
+
+    fn smaller(&self) -> Vec<Run> {
+        self.picture.smaller().into_iter().map(|picture| Run { picture, ..self.clone() }).collect()
+    }
+
+    fn show(&self) -> String {
+        let sigma = self.sigma.map_or(String::new(), |s| format!(", sigma {s:e}"));
+        format!("{}, low {:e}, high {:e}, taps {}{sigma}", self.picture.show(), self.low, self.high, list(&self.taps))
+    }
+}
+
+impl Run {
+    fn vendors(&self) -> Option<Vec<u8>> {
+        match self.sigma {
+            Some(sigma) => vendor::canny(&self.picture, sigma, self.low, self.high),
+            None => vendor::canny_with_taps(&self.picture, &self.taps, self.low, self.high),
+        }
+    }
+}
