@@ -1,6 +1,16 @@
-// The lines of the programs that run examples: what was got, beside what is wanted. What a program writes is compared with its file
-// stdout, so a line whose two sides differ, or that changes, fails the gate. No contract can speak of what is written.
+// The lines of the programs that run examples: what was got, beside what is wanted. No contract can speak of what is written: that is
+// compared with the program's file stdout, so a line whose two sides differ, or that changes, fails the gate. What the lines test has
+// contracts.
 use libc::STDOUT_FILENO;
+ghost use mathlib.Core.Path.{_≡_};
+ghost use mathlib.Core.Bool.{false};
+ghost use lib.Dec.{eqb};
+ghost use mir.Syntax.{w16};
+ghost use mir.Val.{ofZ};
+ghost use lib.IntN.{pos};
+ghost use lib.ListN.{length, getD};
+ghost use lib.Ieee as Ieee;
+ghost use Rattle.report.specs.Tests.{every, shownBits};
 
 // A line of words alone, over a group of lines.
 pub fn heading(text: &[u8]) {
@@ -105,25 +115,33 @@ pub fn float(name: &[u8], got: f32, wanted: u32) {
 // Every NaN is printed as this one.
 const NAN_BITS: u32 = 0x7fc0_0000;
 
-pub fn bits(x: f32) -> u32 {
+pub fn bits(x: f32) -> u32
+    ensures { λ r. ⌜ r ≡ shownBits x ⌝ }
+{
     if x == x {
         return f32::to_bits(x);
     }
     NAN_BITS
 }
 
-pub fn nan() -> f32 {
+pub fn nan() -> f32
+    ensures { λ r. ⌜ r ≡ Ieee.nan ⌝ }
+{
     let zero = 0.0f32;
     zero / zero
 }
 
-pub fn infinity() -> f32 {
+pub fn infinity() -> f32
+    ensures { λ r. ⌜ r ≡ Ieee.inf false ⌝ }
+{
     let zero = 0.0f32;
     1.0 / zero
 }
 
 // Whether every byte is v.
-pub fn all_are(buffer: &[u8], v: u8) -> bool {
+pub fn all_are(buffer: &[u8], v: u8) -> bool
+    ensures { λ r. ⌜ r ≡ every (λ i. eqb (getD (now (buffer .entry)) i 0) v) (length (now (buffer .entry))) ⌝ }
+{
     let mut same = true;
     let mut i = 0;
     while i < buffer.len() {
@@ -134,7 +152,9 @@ pub fn all_are(buffer: &[u8], v: u8) -> bool {
 }
 
 // Whether every float has v's bits.
-pub fn floats_are(buffer: &[f32], v: f32) -> bool {
+pub fn floats_are(buffer: &[f32], v: f32) -> bool
+    ensures { λ r. ⌜ r ≡ every (λ i. eqb (shownBits (getD (now (buffer .entry)) i Ieee.nan)) (shownBits v)) (length (now (buffer .entry))) ⌝ }
+{
     let mut same = true;
     let mut i = 0;
     while i < buffer.len() {
@@ -145,7 +165,9 @@ pub fn floats_are(buffer: &[f32], v: f32) -> bool {
 }
 
 // Whether every signed number is v.
-pub fn numbers_are(buffer: &[i16], v: i16) -> bool {
+pub fn numbers_are(buffer: &[i16], v: i16) -> bool
+    ensures { λ r. ⌜ r ≡ every (λ i. eqb (ofZ w16 (getD (now (buffer .entry)) i (pos 0))) (ofZ w16 v)) (length (now (buffer .entry))) ⌝ }
+{
     let mut same = true;
     let mut i = 0;
     while i < buffer.len() {

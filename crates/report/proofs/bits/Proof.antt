@@ -1,4 +1,4 @@
--- `bits` runs: what equals itself is no NaN. Assumes nothing.
+-- `bits` meets its contract: what equals itself is no NaN. Assumes nothing.
 use mathlib.Core.Path.{_≡_, sym, subst}
 use mathlib.Core.Bool.{true, not}
 use lib.Dec.{T}
@@ -17,10 +17,10 @@ float-to-bits-result : tie.Need-float-to-bits-result
 float-to-bits-result c = no-nan _ (c .if1 .taken)
 
 returns : tie.Need-returns
-returns c = search needs
+returns c = rw (c .if1 .taken)
 
 returns-2 : tie.Need-returns-2
-returns-2 c = search needs
+returns-2 c = rw (c .if1 .left)
 
 pub bits-spec : {M : Type 1} → statement M
 bits-spec = tie.close (tie.spec float-to-bits-result returns returns-2)

@@ -1,18 +1,26 @@
--- `floats_are` is safe and ends. Assumes nothing.
-use borrow.Author.Needs.{needs}
+-- `floats_are` meets its contract: its test so far, entry by entry. Assumes nothing.
+use borrow.Author.Needs.{needs, zero≤}
+use mathlib.Core.Path.{_≡_, refl}
+use denote.Ref.{now}
+use lib.Dec.{eqb}
+use lib.Ieee.{nan}
+use native.Mathlib.Omega.{arith}
+use Rattle.report.specs.Tests.{every, shownBits}
+use Rattle.report.proofs.Every.{every-more}
 use Prim.Native.Nat.{_≤_, _-_}
-use lib.ListN.{length}
+use lib.ListN.{length, getD}
 use Rattle.report.proofs.floats_are.Statement.{statement}
 use Rattle.report.proofs.floats_are.Tie as tie
 
 abbrev Inv-loop : tie.InvT-loop
-Inv-loop buffer v same₀ i₀ same i = i ≤ length buffer
+Inv-loop buffer v same₀ i₀ same i = (i ≤ length buffer) × (same ≡ every (λ j. eqb (shownBits (getD buffer j nan)) (shownBits v)) i)
 
 abbrev μ-loop : tie.MeasureT-loop
 μ-loop buffer v same₀ i₀ same i = length buffer - i
 
 loop-holds : tie.Need-loop-holds Inv-loop μ-loop
-loop-holds c = search needs
+unfolding every
+loop-holds c = (zero≤, refl)
 
 mul-bits : tie.Need-mul-bits Inv-loop μ-loop
 mul-bits c = search needs
@@ -33,10 +41,13 @@ loop-less : tie.Need-loop-less Inv-loop μ-loop
 loop-less c = search needs
 
 loop-again : tie.Need-loop-again Inv-loop μ-loop
-loop-again c = search needs
+loop-again c = (search needs, every-more _ _ _ _ (c .before .before .before .before .loop .inv .1) (rw (c .before .bits .ensures, c .bits2 .ensures)))
 
 returns : tie.Need-returns Inv-loop μ-loop
-returns c = search needs
+returns c =
+    let l = c .before .loop in
+    let e : l .i ≡ length (now (c .before .before .before .args .buffer)) = omega arith in
+    rw e at (l .inv .1)
 
 pub floats-are-spec : {M : Type 1} → statement M
 floats-are-spec =

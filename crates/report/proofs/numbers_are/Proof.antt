@@ -1,18 +1,28 @@
--- `numbers_are` is safe and ends. Assumes nothing.
-use borrow.Author.Needs.{needs}
+-- `numbers_are` meets its contract: its test so far, entry by entry. Assumes nothing.
+use borrow.Author.Needs.{needs, zero≤}
+use mathlib.Core.Path.{_≡_, refl}
+use denote.Ref.{now}
+use lib.Dec.{eqb}
+use mir.Syntax.{w16}
+use mir.Val.{ofZ}
+use lib.IntN.{pos}
+use native.Mathlib.Omega.{arith}
+use Rattle.report.specs.Tests.{every}
+use Rattle.report.proofs.Every.{every-more}
 use Prim.Native.Nat.{_≤_, _-_}
-use lib.ListN.{length}
+use lib.ListN.{length, getD}
 use Rattle.report.proofs.numbers_are.Statement.{statement}
 use Rattle.report.proofs.numbers_are.Tie as tie
 
 abbrev Inv-loop : tie.InvT-loop
-Inv-loop buffer v same₀ i₀ same i = i ≤ length buffer
+Inv-loop buffer v same₀ i₀ same i = (i ≤ length buffer) × (same ≡ every (λ j. eqb (ofZ w16 (getD buffer j (pos 0))) v) i)
 
 abbrev μ-loop : tie.MeasureT-loop
 μ-loop buffer v same₀ i₀ same i = length buffer - i
 
 loop-holds : tie.Need-loop-holds Inv-loop μ-loop
-loop-holds c = search needs
+unfolding every
+loop-holds c = (zero≤, refl)
 
 mul-same : tie.Need-mul-same Inv-loop μ-loop
 mul-same c = search needs
@@ -27,10 +37,13 @@ loop-less : tie.Need-loop-less Inv-loop μ-loop
 loop-less c = search needs
 
 loop-again : tie.Need-loop-again Inv-loop μ-loop
-loop-again c = search needs
+loop-again c = (search needs, every-more _ _ _ _ (c .before .before .loop .inv .1) refl)
 
 returns : tie.Need-returns Inv-loop μ-loop
-returns c = search needs
+returns c =
+    let l = c .before .loop in
+    let e : l .i ≡ length (now (c .before .before .args .buffer)) = omega arith in
+    rw e at (l .inv .1)
 
 pub numbers-are-spec : {M : Type 1} → statement M
 numbers-are-spec =

@@ -1,0 +1,2 @@
+-- The law of a test that goes on entry by entry.
+pub mod Every

@@ -1,0 +1,2 @@
+-- What the tests of a line compare.
+pub mod Tests
