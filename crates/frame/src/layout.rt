@@ -70,7 +70,7 @@ pub(crate) fn breach(file: &[u8]) -> bool
 }
 
 // The f32 that a pattern stands for. `from_bits` is undefined on a NaN's, so those are told by the bits and become the one NaN.
-pub(crate) fn float(bits: u32) -> f32
+pub fn float(bits: u32) -> f32
     ensures { λ r. ⌜ r ≡ ofBits binary32 bits ⌝ }
 {
     if 0x7f80_0000 < bits % 0x8000_0000 {

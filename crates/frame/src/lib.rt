@@ -1,5 +1,5 @@
 // A frame file's bytes in, the printout's bytes out (01.Frame.1 to 01.Frame.7).
-mod layout;
+pub mod layout;
 mod running;
 mod text;
 

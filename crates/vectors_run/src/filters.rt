@@ -1,0 +1,115 @@
+// The stages that make a byte picture of a byte picture, and the resolver.
+use crate::case::Case;
+use crate::case::LIST;
+use crate::lists;
+use crate::lists::LEFT;
+use crate::lists::LEFT_FLOAT;
+use kelontsira::filtering::kelontsira_apply_kernel;
+use kelontsira::filtering::kelontsira_apply_separable_kernel;
+use kelontsira::filtering::kelontsira_box_blur;
+use kelontsira::filtering::kelontsira_gaussian_blur;
+use kelontsira::filtering::kelontsira_median;
+use kelontsira::filtering::kelontsira_resolve_coord;
+use kelontsira::filtering::kelontsira_sharpen;
+use kelontsira::filtering::kelontsira_sobel;
+
+pub(crate) fn replay(case: Case, one: &[u32], two: &[u32], three: &[u32], wanted: &[u32]) -> bool {
+    if case.stage == 1 {
+        return resolved(case, one, wanted);
+    }
+    let mut pixels = [0u8; LIST];
+    let n = lists::bytes(one, &mut pixels);
+    let mut out = [LEFT; LIST];
+    let refusal = call(case, &pixels[..n], two, three, &mut out);
+    (refusal == 0) & lists::bytes_are(&out, wanted)
+}
+
+// The coordinate is two words of 32 bits, the low one first.
+fn resolved(case: Case, words: &[u32], wanted: &[u32]) -> bool {
+    if words.len() < 2 {
+        return false;
+    }
+    if wanted.len() < 1 {
+        return false;
+    }
+    let mut place = 0;
+    let refusal = kelontsira_resolve_coord(
+        coordinate(words[0], words[1]),
+        case.p as usize,
+        case.border,
+        &mut place,
+    );
+    (refusal == 0) & (place == wanted[0] as usize)
+}
+
+fn coordinate(low: u32, high: u32) -> i64 {
+    let pattern = (high as u64) * 0x1_0000_0000 + (low as u64);
+    if pattern < 0x8000_0000_0000_0000 {
+        return pattern as i64;
+    }
+    -1 - ((0xffff_ffff_ffff_ffff - pattern) as i64)
+}
+
+fn call(case: Case, pixels: &[u8], two: &[u32], three: &[u32], out: &mut [u8]) -> u8 {
+    if case.stage <= 4 {
+        return weighted(case, pixels, two, three, out);
+    }
+    let mut work = [LEFT_FLOAT; LIST];
+    let stage = case.stage;
+    match stage {
+        5 => kelontsira_box_blur(pixels, case.width, case.height, case.border, &mut work, out),
+        6 => kelontsira_sharpen(pixels, case.width, case.height, case.border, out),
+        7 => kelontsira_median(
+            pixels,
+            case.width,
+            case.height,
+            case.p as usize,
+            case.border,
+            out,
+        ),
+        _ => kelontsira_sobel(pixels, case.width, case.height, case.border, out),
+    }
+}
+
+// The stages whose weights come with the case.
+fn weighted(case: Case, pixels: &[u8], two: &[u32], three: &[u32], out: &mut [u8]) -> u8 {
+    let mut across = [0.0f32; LIST];
+    let mut down = [0.0f32; LIST];
+    let mut work = [LEFT_FLOAT; LIST];
+    let n = lists::floats(two, &mut across);
+    let m = lists::floats(three, &mut down);
+    let stage = case.stage;
+    match stage {
+        2 => kelontsira_apply_kernel(
+            pixels,
+            case.width,
+            case.height,
+            case.p as usize,
+            case.q as usize,
+            &across[..n],
+            case.border,
+            out,
+        ),
+        3 => kelontsira_apply_separable_kernel(
+            pixels,
+            case.width,
+            case.height,
+            n,
+            m,
+            &across[..n],
+            &down[..m],
+            case.border,
+            &mut work,
+            out,
+        ),
+        _ => kelontsira_gaussian_blur(
+            pixels,
+            case.width,
+            case.height,
+            &across[..n],
+            case.border,
+            &mut work,
+            out,
+        ),
+    }
+}
