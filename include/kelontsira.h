@@ -51,7 +51,7 @@ extern "C" {
 #define KELONTSIRA_REFUSED_ORDER 6     /* low is greater than high */
 #define KELONTSIRA_REFUSED_ROOM 7      /* an output or a work buffer is too short */
 #define KELONTSIRA_REFUSED_BUDGET 8    /* a budget of 0 */
-#define KELONTSIRA_REFUSED_STATE 9     /* a walk's state that no start or slice has left */
+#define KELONTSIRA_REFUSED_STATE 9     /* a walk's state that can't be used: see kelontsira_slice */
 #define KELONTSIRA_REFUSED_PENDING 10  /* a map is asked for while pixels are pending */
 #define KELONTSIRA_REFUSED_BORDER 255  /* not one of the three border modes */
 
@@ -63,13 +63,13 @@ uint8_t kelontsira_resolve_coord(int64_t coord, size_t side, uint8_t border, siz
 
 /* Convolution with a kernel of odd sides 1 to 15, its kernel_width * kernel_height weights in row order. The kernel is flipped both ways:
  * its last weight meets the sample above and to the left. Each output is a sum of f32 products in one order, made a byte: the nearest whole
- * number, halves upwards, held to 0..255; a NaN gives 0. Refusals: 255, 1, 2, 3, 4, 7. */
+ * number, halves away from zero, held to 0..255; a NaN gives 0. Refusals: 255, 1, 2, 3, 4, 7. */
 uint8_t kelontsira_apply_kernel(const uint8_t *pixels, size_t pixels_length, size_t width, size_t height, size_t kernel_width,
                                 size_t kernel_height, const float *weights, size_t weights_length, uint8_t border, uint8_t *out,
                                 size_t out_length);
 
 /* Convolution with a row of taps and then a column of taps, odd counts 1 to 63, both flipped. Between the two the sums stay f32 in `work`,
- * of at least width * height entries, whose first width * height are +0 afterwards; what they held is never read. The column's sums are
+ * of at least width * height entries, whose first width * height are +0 afterwards; what they held changes nothing. The column's sums are
  * made bytes as above. Refusals: 255, 1, 2, 3, 4, 7 (work or out). */
 uint8_t kelontsira_apply_separable_kernel(const uint8_t *pixels, size_t pixels_length, size_t width, size_t height,
                                           size_t horizontal_taps, size_t vertical_taps, const float *horizontal,
@@ -133,7 +133,9 @@ uint8_t kelontsira_start(const float *magnitudes, size_t magnitudes_length, size
                          size_t *walk_height, size_t *walk_pending);
 
 /* Takes up to `budget` pixels off the stack; *takes says how many. A pixel taken gets mark 3, and its weak neighbours become pending. The
- * walk has ended when *walk_pending is 0. The three numbers are read and written. Refusals: 1, 7, 8, 9. */
+ * walk has ended when *walk_pending is 0. The three numbers are read and written. A state that a start or a slice left is never refused 9;
+ * one is where pending, or a pending index, is over what width * height allows, a mark is over 3, or pending and the marks 1 together are
+ * more than width * height. Refusals: 1, 7, 8, 9. */
 uint8_t kelontsira_slice(size_t *walk_width, size_t *walk_height, size_t *walk_pending, size_t budget, uint8_t *marks,
                          size_t marks_length, uint32_t *stack, size_t stack_length, size_t *takes);
 
@@ -145,7 +147,7 @@ uint8_t kelontsira_map(size_t walk_width, size_t walk_height, size_t walk_pendin
 
 /* Blur with the taps (Clamp), Sobel (Clamp), magnitude, suppression, a walk to its end and its map: 255 at an edge, else 0; *count is
  * how many are 255. The seven buffers before `map` are scratch of at least width * height entries each, 18 bytes a pixel; what they held
- * is never read, and their first width * height entries are 0 afterwards. Refusals: 1, 2, 3, 4, 5, 6, 7 (any scratch buffer or map). */
+ * changes nothing of the answer, and their first width * height entries are 0 afterwards. Refusals: 1, 2, 3, 4, 5, 6, 7 (any scratch buffer or map). */
 uint8_t kelontsira_canny(const uint8_t *pixels, size_t pixels_length, size_t width, size_t height, const float *taps,
                          size_t taps_length, float low, float high, float *work, size_t work_length, float *magnitude,
                          size_t magnitude_length, int16_t *gx, size_t gx_length, int16_t *gy, size_t gy_length, uint8_t *blurred,

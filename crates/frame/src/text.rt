@@ -1,4 +1,4 @@
-// The printout's bytes (01.Frame.5, 01.Frame.6), written at a place of the lent text. Each function that writes returns the next place.
+// The printout's bytes (01.Frame.6, 01.Frame.7), written at a place of the lent text. Each function that writes returns the next place.
 use rules::EDGE;
 use rules::Size;
 ghost use mathlib.Core.Path.{_≡_};

@@ -10,6 +10,9 @@ use lib.ListN.{getD}
 use lib.IntN.{ℤ, pos, negsuc, negℤ, natAbs, subℕ, _+ℤ_, _*ℤ_}
 use borrow.Author.Tests.{ltb-true, ltb-false}
 use Rattle.rules.specs.Border.{resolved, entryAt, sampleAt, byteSample, under}
+use lib.Ieee.Exact.{HasValue}
+use Rattle.rules.specs.Sums.{wholeF32}
+use Rattle.rules.proofs.Floats.{whole-exact}
 use Rattle.rules.specs.Gradient.{gxTable, gyTable, sumZ, gradientTerm, gradientAt, energy}
 use Rattle.rules.specs.declared.Size.{Size}
 use Rattle.rules.specs.declared.BorderMode.{BorderMode}
@@ -162,3 +165,7 @@ module _ (d : Size) (mode : BorderMode) (pixels : List ℕ) (byte : (i : ℕ) �
 
     pub energy-within : energy (gradientAt gxTable d mode pixels x y) (gradientAt gyTable d mode pixels x y) ≤ 2080800
     energy-within = rw (gradient-is gxTable d mode pixels x y, gradient-is gyTable d mode pixels x y) (energy-small nine nine-bytes)
+
+    -- so S is exact as an f32 (01.Gradient.3); the port keeps it a whole number
+    pub energy-exact : HasValue (wholeF32 (pos (energy (gradientAt gxTable d mode pixels x y) (gradientAt gyTable d mode pixels x y)))) false (energy (gradientAt gxTable d mode pixels x y) (gradientAt gyTable d mode pixels x y)) 1
+    energy-exact = whole-exact _ (omega (arith, energy-within))

@@ -98,6 +98,12 @@ ordered =
     inRowOrder (record { width = 1; height = 1 })
     (convolvedAt (record { width = 1; height = 1 }) (record { width = 3; height = 1 }) Clamp (1 ∷ []) (wholeF32 (pos 100000000) ∷ wholeF32 (negsuc 99999999) ∷ wholeF32 (pos 1) ∷ []))
 
+-- a column of 10, 20, 30 under a column of weights 1, 0, 0: flipped, the 1 meets the sample below. Not flipped it would be 10, 10, 20
+abbrev upwards : List ℕ
+upwards =
+    inRowOrder (record { width = 1; height = 3 })
+    (convolvedAt (record { width = 1; height = 3 }) (record { width = 1; height = 3 }) Clamp (10 ∷ 20 ∷ 30 ∷ []) (wholeF32 (pos 1) ∷ wholeF32 (pos 0) ∷ wholeF32 (pos 0) ∷ []))
+
 -- a byte of 1 under a tap of 1/2 across and of 3/4 down: 3/8 is 0. Rounded between the passes it would be 1
 abbrev unrounded : List ℕ
 unrounded =
@@ -111,6 +117,7 @@ rounded = map (λ (b : ℕ). toByte (ofBits binary32 b)) (0x3eff_ffff ∷ 0x3f00
 unfoldable pub slips : List Example
 slips =
     ex ordered (0 ∷ [])
+    ∷ ex upwards (20 ∷ 30 ∷ 30 ∷ [])
     ∷ ex unrounded (0 ∷ [])
     ∷ ex rounded (0 ∷ 1 ∷ 255 ∷ 0 ∷ 255 ∷ 0 ∷ [])
     ∷ []
