@@ -2,22 +2,22 @@
 use Prim.Native.Nat.{ℕ, _<_}
 use mathlib.Core.Path.{_≡_, refl, sym, ap, _∙_}
 use mathlib.Core.Bool.{Bool, true, false, cond}
-use mathlib.Core.List.{List, [], _∷_}
+use mathlib.Core.List.{List}
 use lib.Dec.{eqb}
-use lib.ListN.{length, getD, take, drop}
+use lib.ListN.{getD, take, drop}
 use lib.Ieee.{Float}
-use borrow.Author.Tests.{ne-eqb, le-ltb}
-use Rattle.rules.specs.Limits.{maxTaps}
+use borrow.Author.Tests.{ne-eqb}
 use Rattle.rules.specs.Picture.{area, tabulate, filled}
-use Rattle.rules.specs.Refusals.{Rule, Scratch, first, sideRow, inputRow, countRow, weightRow, thresholdRow, orderRow, runRows, startRows}
+use Rattle.rules.specs.Refusals.{Scratch, first, runRows, startRows}
 use Rattle.rules.specs.Joined.{Joined, joinedCount}
-use Rattle.rules.specs.Run.{suppressedOf, runEdges, countOf, clearedScratch, canny}
+use Rattle.rules.specs.Run.{suppressedOf, runEdges, countOf, clearedScratch, canny, Roomy}
 use Rattle.rules.specs.declared.Size.{Size}
 use Rattle.rules.specs.declared.Thresholds.{Thresholds}
 use Rattle.rules.specs.declared.Counted.{Counted}
 use Rattle.rules.proofs.Fill.{filled-at, take-filled, drop-filled}
 use Rattle.rules.proofs.Paths.{way-in}
-use Rattle.canny.specs.Demand.{Roomy, Demand-1, hi, lo}
+use Rattle.rules.proofs.Runs.{front, roomy}
+use Rattle.canny.specs.Demand.{Demand-1, hi, lo}
 use Rattle.canny.proofs.Running.{startable}
 use Rattle.canny.proofs.Walking.{edge-on, edge-off, edges-count}
 
@@ -42,10 +42,6 @@ module _ (d : Size) (pixels : List ℕ) (taps : List Float) (t : Thresholds) whe
   abbrev filling : List ℕ → List ℕ
   filling map = filled (area d) (λ q. getD edges q 0) map
 
-  -- the rows that do not ask for room, and what they answer
-  abbrev front : List Rule
-  front = sideRow d ∷ inputRow d pixels ∷ countRow maxTaps (length taps) ∷ weightRow taps ∷ thresholdRow t ∷ orderRow t ∷ []
-
   abbrev byNumber : ℕ → Counted
   byNumber n = record { refusal = n; count = cond (eqb n 0) (countOf d edges) 0 }
 
@@ -67,23 +63,9 @@ module _ (d : Size) (pixels : List ℕ) (taps : List Float) (t : Thresholds) whe
         shared (λ (a : Counted × (List ℕ × Scratch)). drop (area d) (a .1 .0)) (eqb n 0) _ _ _
         (drop-filled (area d) (λ q. getD edges q 0) map (filling map) refl) refl
 
-    -- with room no row that asks for it applies
-    roomy : Roomy d s map → n ≡ first front
-    roomy r =
-        rw (
-          le-ltb _ _ (r .work),
-          le-ltb _ _ (r .magnitude),
-          le-ltb _ _ (r .gx),
-          le-ltb _ _ (r .gy),
-          le-ltb _ _ (r .blurred),
-          le-ltb _ _ (r .marks),
-          le-ltb _ _ (r .stack),
-          le-ltb _ _ (r .room),
-        )
-
-    answer : Roomy d s map → after s map .0 ≡ byNumber (first front)
+    answer : Roomy d s map → after s map .0 ≡ byNumber (first (front d pixels taps t))
     unfolding canny
-    answer r = answered (eqb n 0) n (countOf d edges) (filling map, clearedScratch d s) (map, s) ∙ ap (λ (k : ℕ). byNumber k) (roomy r)
+    answer r = answered (eqb n 0) n (countOf d edges) (filling map, clearedScratch d s) (map, s) ∙ ap (λ (k : ℕ). byNumber k) (roomy d pixels taps t s map r)
 
     module _ (e : after s map .0 .refusal ≡ 0) where
       accepted : n ≡ 0

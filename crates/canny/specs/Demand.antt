@@ -1,30 +1,19 @@
 -- DEMAND 1: what a run shows depends on its picture, taps and thresholds alone, never on what its buffers held; and what the map and the
 -- count are, in demand 3's words.
-use Prim.Native.Nat.{ℕ, _<_, _≤_}
+use Prim.Native.Nat.{ℕ, _<_}
 use mathlib.Core.Path.{_≡_}
 use mathlib.Core.Bool.{Bool}
 use mathlib.Core.List.{List}
-use lib.ListN.{length, getD, take, drop}
+use lib.ListN.{getD, take, drop}
 use lib.Ieee.{Float}
 use Rattle.rules.specs.Picture.{area}
 use Rattle.rules.specs.Walk.{atLeast}
 use Rattle.rules.specs.Refusals.{Scratch, first, runRows}
 use Rattle.rules.specs.Joined.{Joined, joinedCount}
-use Rattle.rules.specs.Run.{suppressedOf, clearedScratch, canny}
+use Rattle.rules.specs.Run.{suppressedOf, clearedScratch, canny, Roomy}
 use Rattle.rules.specs.declared.Size.{Size}
 use Rattle.rules.specs.declared.Thresholds.{Thresholds}
 use Rattle.rules.specs.declared.Counted.{Counted}
-
--- every lent buffer holds at least width * height entries, of any values
-pub record Roomy (d : Size) (s : Scratch) (map : List ℕ) : Type 0 where
-  pub work : area d ≤ length (s .work)
-  pub magnitude : area d ≤ length (s .magnitude)
-  pub gx : area d ≤ length (s .gx)
-  pub gy : area d ≤ length (s .gy)
-  pub blurred : area d ≤ length (s .blurred)
-  pub marks : area d ≤ length (s .marks)
-  pub stack : area d ≤ length (s .stack)
-  pub room : area d ≤ length map
 
 module _ (d : Size) (pixels : List ℕ) (taps : List Float) (t : Thresholds) where
   -- a run with these buffers lent: its answer, the map, the scratch

@@ -21,7 +21,8 @@ use Rattle.rules.proofs.Rows.{hit, skip}
 use Rattle.frame.specs.Fitted.{fitted, Small}
 use Rattle.frame.specs.Running.{ran}
 use Rattle.frame.proofs.Breaches.{Laid}
-use Rattle.frame.proofs.Runs.{front, pick, outcome, ran-is, textOf, text-same, count-few}
+use Rattle.rules.proofs.Runs.{front}
+use Rattle.frame.proofs.Runs.{pick, outcome, ran-is, textOf, text-same, count-few}
 
 -- more taps than a run takes
 many : (n : ℕ) → maxTaps < n → countRow maxTaps n .applies ≡ true

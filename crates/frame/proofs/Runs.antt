@@ -9,37 +9,27 @@ use lib.Dec.{ltb, eqb}
 use lib.ListN.{length, getD}
 use lib.IntN.{pos}
 use lib.Ieee.{Float}
-use borrow.Author.Tests.{le-ltb, ltb-true}
-use Rattle.rules.specs.Limits.{maxTaps}
+use borrow.Author.Tests.{ltb-true}
 use Rattle.rules.specs.Picture.{area, filled}
 use Rattle.rules.specs.Sums.{plusZero}
-use Rattle.rules.specs.Refusals.{Rule, Scratch, first, runRows, sideRow, inputRow, countRow, weightRow, thresholdRow, orderRow, roomRow}
-use Rattle.rules.specs.Run.{canny, runEdges, countOf}
+use Rattle.rules.specs.Refusals.{Rule, Scratch, first, runRows}
+use Rattle.rules.specs.Run.{canny, runEdges, countOf, Roomy}
 use Rattle.rules.specs.Frame.{freshScratch, pixelText, newline, edgesText, rowsText, refusedText}
 use Rattle.rules.specs.declared.Size.{Size}
 use Rattle.rules.specs.declared.Thresholds.{Thresholds}
 use Rattle.rules.specs.declared.Counted.{Counted}
 use Rattle.rules.proofs.Fill.{length-tabulate, tabulate-cong, filled-at}
 use Rattle.rules.proofs.Grid.{pixel-in}
-use Rattle.rules.proofs.Rows.{Off}
+use Rattle.rules.proofs.Runs.{front, roomy}
 use Rattle.rules.proofs.Tallies.{tally-all}
 use Rattle.frame.specs.Running.{shown, ran}
 use Rattle.frame.proofs.Writing.{shownAt, rows-are}
 
--- ---- tables
-
--- rows of which none applies change no number
-first-off : (rs bs : List Rule) → Off bs → first (rs ++ bs) ≡ first rs
-first-off [] [] o = refl
-first-off [] (r ∷ bs) o = rw (o .0) (first-off [] bs (o .1))
-first-off (r ∷ rs) bs o = ap (λ (n : ℕ). cond (r .applies) (r .number) n) (first-off rs bs o)
-
 -- ---- a run
 
 module _ (d : Size) (pixels : List ℕ) (taps : List Float) (t : Thresholds) where
-  -- the rows that do not ask for room
-  abbrev pub front : List Rule
-  front = sideRow d ∷ inputRow d pixels ∷ countRow maxTaps (length taps) ∷ weightRow taps ∷ thresholdRow t ∷ orderRow t ∷ []
+  abbrev rows : List Rule
+  rows = front d pixels taps t
 
   -- what is answered and shown where there is room, by the number and whether it is 0
   abbrev pub pick : Bool → ℕ → List ℕ → Counted × List ℕ
@@ -49,30 +39,17 @@ module _ (d : Size) (pixels : List ℕ) (taps : List Float) (t : Thresholds) whe
       (record { refusal = n; count = 0 }, out)
 
   abbrev pub outcome : List ℕ → Counted × List ℕ
-  outcome out = pick (eqb (first front) 0) (first front) out
-
-  pub record Roomy (s : Scratch) (out : List ℕ) : Type 0 where
-    pub work : area d ≤ length (s .work)
-    pub magnitude : area d ≤ length (s .magnitude)
-    pub gx : area d ≤ length (s .gx)
-    pub gy : area d ≤ length (s .gy)
-    pub blurred : area d ≤ length (s .blurred)
-    pub marks : area d ≤ length (s .marks)
-    pub stack : area d ≤ length (s .stack)
-    pub room : area d ≤ length out
+  outcome out = pick (eqb (first rows) 0) (first rows) out
 
   shown-cond : {A B C : Type 0} (b : Bool) (x y : A × (B × C)) → _≡_ {A = A × B} (cond b x y .0, cond b x y .1 .0) (cond b (x .0, x .1 .0) (y .0, y .1 .0))
   shown-cond true x y = refl
   shown-cond false x y = refl
 
-  pub any-scratch : (s : Scratch) (out : List ℕ) → Roomy s out → shown (canny d pixels taps t s out) ≡ outcome out
+  pub any-scratch : (s : Scratch) (out : List ℕ) → Roomy d s out → shown (canny d pixels taps t s out) ≡ outcome out
   unfolding canny
   any-scratch s out r =
       shown-cond (eqb (first (runRows d pixels taps t s out)) 0) _ _
-      ∙ ap (λ (n : ℕ). pick (eqb n 0) n out)
-      (first-off front
-      (roomRow d (s .work) ∷ roomRow d (s .magnitude) ∷ roomRow d (s .gx) ∷ roomRow d (s .gy) ∷ roomRow d (s .blurred) ∷ roomRow d (s .marks) ∷ roomRow d (s .stack) ∷ roomRow d out ∷ [])
-      (le-ltb _ _ (r .work), (le-ltb _ _ (r .magnitude), (le-ltb _ _ (r .gx), (le-ltb _ _ (r .gy), (le-ltb _ _ (r .blurred), (le-ltb _ _ (r .marks), (le-ltb _ _ (r .stack), (le-ltb _ _ (r .room), tt)))))))))
+      ∙ ap (λ (n : ℕ). pick (eqb n 0) n out) (roomy d pixels taps t s out r)
 
   pub ran-is : (out : List ℕ) → area d ≤ length out → ran d pixels taps t out ≡ outcome out
   unfolding ran
@@ -111,17 +88,17 @@ module _ (d : Size) (pixels : List ℕ) (taps : List Float) (t : Thresholds) whe
       go i h false e = refl
 
   pub text-same : (a b : List ℕ) → textOf (outcome a) ≡ textOf (outcome b)
-  text-same a b = go (eqb (first front) 0) refl
+  text-same a b = go (eqb (first rows) 0) refl
     where
-      go : (c : Bool) → eqb (first front) 0 ≡ c → textOf (pick c (first front) a) ≡ textOf (pick c (first front) b)
-      go true e = ap (λ (r : List ℕ). cond (eqb (first front) 0) (edgesText d (countOf d (runEdges d pixels taps t)) ++ r) (refusedText (first front))) (rows-same (λ q. getD (runEdges d pixels taps t) q 0) a b)
+      go : (c : Bool) → eqb (first rows) 0 ≡ c → textOf (pick c (first rows) a) ≡ textOf (pick c (first rows) b)
+      go true e = ap (λ (r : List ℕ). cond (eqb (first rows) 0) (edgesText d (countOf d (runEdges d pixels taps t)) ++ r) (refusedText (first rows))) (rows-same (λ q. getD (runEdges d pixels taps t) q 0) a b)
       go false e = rw e
 
   -- a run counts at most its pixels
   pub count-few : (out : List ℕ) → outcome out .0 .count ≤ area d
   unfolding countOf
-  count-few out = go (eqb (first front) 0)
+  count-few out = go (eqb (first rows) 0)
     where
-      go : (c : Bool) → pick c (first front) out .0 .count ≤ area d
+      go : (c : Bool) → pick c (first rows) out .0 .count ≤ area d
       go true = tally-all _ (area d)
       go false = omega arith

@@ -15,7 +15,8 @@ use Rattle.frame.specs.Fitted.{Small}
 use Rattle.frame.proofs.Breaches.{laid}
 use Rattle.frame.proofs.Decimals.{few-digits}
 use Rattle.frame.proofs.Writing.{length-refused, length-edges, length-rows, lengths}
-use Rattle.frame.proofs.Runs.{front, pick, textOf, count-few}
+use Rattle.rules.proofs.Runs.{front}
+use Rattle.frame.proofs.Runs.{pick, textOf, count-few}
 use Rattle.frame.proofs.Printouts.{breached, kept, text-by}
 
 -- what a printout may take

@@ -10,6 +10,7 @@ pub mod Computed
 pub mod Stores
 pub mod Tallies
 pub mod Rows
+pub mod Runs
 pub mod Answers
 pub mod Blurs
 pub mod Grid

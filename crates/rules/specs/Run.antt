@@ -1,5 +1,5 @@
 -- The whole run (01.Walk.12, 01.Walk.13): blur, gradient, magnitude, suppression, a walk to its end, the map and its count.
-use Prim.Native.Nat.{ℕ, _+_}
+use Prim.Native.Nat.{ℕ, _+_, _≤_}
 use mathlib.Core.List.{List}
 use lib.Dec.{eqb}
 use lib.ListN.{length, getD}
@@ -75,3 +75,14 @@ canny d pixels taps t s out =
     accepted number
     (record { refusal = number; count = countOf d edges }, (filled (area d) (λ q. getD edges q 0) out, clearedScratch d s))
     (record { refusal = number; count = 0 }, (out, s))
+
+-- room in every lent buffer: at least width * height entries, of any values
+pub record Roomy (d : Size) (s : Scratch) (map : List ℕ) : Type 0 where
+  pub work : area d ≤ length (s .work)
+  pub magnitude : area d ≤ length (s .magnitude)
+  pub gx : area d ≤ length (s .gx)
+  pub gy : area d ≤ length (s .gy)
+  pub blurred : area d ≤ length (s .blurred)
+  pub marks : area d ≤ length (s .marks)
+  pub stack : area d ≤ length (s .stack)
+  pub room : area d ≤ length map
