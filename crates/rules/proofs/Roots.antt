@@ -192,16 +192,7 @@ not-above s a b p q l =
 pub byte-only : (s a b : ℕ) → LeastByte s a → LeastByte s b → a ≡ b
 byte-only s a b p q = let l = not-above s a b p q in let g = not-above s b a q p in omega arith
 
--- what a mended guess has: s is at most the end of n, and above the end before it
-pub byte-at : (s n : ℕ) → n < 255 → s ≤ upperEnd n → (0 < n → upperEnd (n - 1) < s) → n ≡ sobelByte s
-byte-at s n l h g = byte-only s n (sobelByte s) (record { most = omega arith; reached = λ _. h; least = least }) (byte-is s)
-  where
-    least : (k : ℕ) → k < 255 → s ≤ upperEnd k → n ≤ k
-    least k _ u =
-        let no : k < n → ⊥ = λ d. let f : k ≤ n - 1 = omega arith in lt-irrefl s (omega (arith, ends-rise f, g (omega arith))) in
-        omega arith
-
--- or it is above the last end
+-- above the last end it is 255
 pub byte-over : (s : ℕ) → upperEnd 254 < s → 255 ≡ sobelByte s
 byte-over s h = byte-only s 255 (sobelByte s) (record { most = omega arith; reached = λ l. omega arith; least = least }) (byte-is s)
   where

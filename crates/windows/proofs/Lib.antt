@@ -3,7 +3,7 @@ pub mod Components
 pub mod Pixels
 pub mod Writing
 pub mod Refusing
-pub mod Guessing
+pub mod Halving
 pub mod Energies
 pub mod Counting
 pub mod Places

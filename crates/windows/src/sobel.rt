@@ -6,14 +6,16 @@ use rules::BorderMode;
 use rules::REFUSED_ROOM;
 use rules::Size;
 ghost use mathlib.Core.Path.{_≡_};
+ghost use mathlib.Core.Bool.{cond};
+ghost use lib.Dec.{ltb};
 ghost use Prim.Native.Nat.{ℕ, _+_, _-_, _*_, _≤_, _<_};
 ghost use lib.ListN.{length};
 ghost use Rattle.rules.specs.Picture.{area, filled};
 ghost use Rattle.rules.specs.Gradient.{gxTable, gyTable, energy};
-ghost use Rattle.rules.specs.Root.{upperEnd, sobelByte};
+ghost use Rattle.rules.specs.Root.{sobelByte};
 ghost use Rattle.rules.specs.Calls.{sobelGradients, sobel};
 ghost use Rattle.windows.specs.Window.{written, writtenRow, Picture, Run, Window};
-ghost use Rattle.windows.specs.Sobel.{Weights, component, nineAbout, nineInside, Inside, Inner, Ends, insideOf, gxOf, gyOf, byteOf, nineByte, byteInside};
+ghost use Rattle.windows.specs.Sobel.{Weights, component, nineAbout, nineInside, Inside, Inner, Ends, Among, Halving, insideOf, gxOf, gyOf, byteOf, nineByte, byteInside};
 
 // The two tables of signed weights, applied without flipping (01.Gradient.1).
 const GX: [i16; 9] = [-1, 0, 1, -2, 0, 2, -1, 0, 1];
@@ -219,65 +221,95 @@ pub fn sobel_gradients(
     ACCEPTED
 }
 
-// ---- Sobel's own byte: the root of S to the nearest whole number, by a table.
+// ---- Sobel's own byte, the root of S to the nearest whole number: the 256 that it may be, halved eight times.
 
-// The table, to lend: a loop over pixels takes it out once.
+// The table, to lend.
 fn upper_ends() -> [u32; 255]
     ensures { λ r. ⌜ Ends r ⌝ }
 {
     ENDS
 }
 
-// Half the exponent of a float is nearly its root's; one of Heron's steps, and 2^23 added, leave a whole number in the low bits.
-fn low_bits(z: f32) -> u32 {
-    if z > 0.0 {
-        return f32::to_bits(z);
-    }
-    0
-}
-
-fn half_exponent(f: f32) -> f32 {
-    f32::from_bits(low_bits(f) / 2 % 1073741824 + 532369198)
-}
-
-// Where to begin: near the byte of s, for speed alone. Nothing is promised of it but that the table has it.
-fn guess(s: u32) -> usize
-    requires { ⌜ s ≤ upperEnd 254 ⌝ }
-    ensures { λ r. ⌜ r < 255 ⌝ }
+// Of the 2 * b bytes from n on, the upper half if the end before it is below s, else the lower: told by its first.
+fn half_by(ends: &[u32], s: u32, n: usize, b: usize) -> usize
+    requires { ⌜ Ends (now ends) × Halving s n b ⌝ }
+    ensures { λ r. ⌜ Among s r b ⌝ }
 {
-    let f = (s as u16) as f32;
-    let y = half_exponent(f);
-    let n = low_bits((y + f / y) * 0.5 + 8388608.0) % 256;
-    if n < 255 { n as usize } else { 254 }
+    let m = n + b;
+    if ends[m - 1] < s {
+        return m;
+    }
+    n
 }
 
-// The guess mended against the table: up while its end is below s, then down while the end before it is not.
 fn byte_by(ends: &[u32], s: u32) -> u8
     requires { ⌜ Ends (now ends) ⌝ }
     ensures { λ r. ⌜ r ≡ sobelByte s ⌝ }
 {
-    if ends[254] < s {
-        return 255;
-    }
-    let mut n = guess(s);
-    while ends[n] < s {
-        n += 1;
-    }
-    while 0 < n {
-        if ends[n - 1] < s {
-            return n as u8;
-        }
-        n -= 1;
-    }
-    0
+    let mut n = half_by(ends, s, 0, 128);
+    n = half_by(ends, s, n, 64);
+    n = half_by(ends, s, n, 32);
+    n = half_by(ends, s, n, 16);
+    n = half_by(ends, s, n, 8);
+    n = half_by(ends, s, n, 4);
+    n = half_by(ends, s, n, 2);
+    n = half_by(ends, s, n, 1);
+    n as u8
 }
 
-// The byte of any S.
+// The byte of any S, by the table.
 pub fn sobel_byte(s: u32) -> u8
     ensures { λ r. ⌜ r ≡ sobelByte s ⌝ }
 {
     let ends = upper_ends();
     byte_by(&ends, s)
+}
+
+// ---- The same byte for a loop over pixels, with each end worked out: a loop that looks nothing up and does not branch takes several pixels
+// at once, and needs no table on the stack.
+
+// b if e is below s, else 0.
+fn gain(e: u16, s: u16, b: u16) -> u16
+    ensures { λ r. ⌜ r ≡ cond (ltb e s) b 0 ⌝ }
+{
+    if e < s {
+        return b;
+    }
+    0
+}
+
+// As half_by: the end before m is m * (m - 1).
+fn half(s: u16, n: u16, b: u16) -> u16
+    requires { ⌜ Halving s n b ⌝ }
+    ensures { λ r. ⌜ Among s r b ⌝ }
+{
+    let m = n + b;
+    n + gain(m * (m - 1), s, b)
+}
+
+// S in 16 bits, of which eight fit where four of 32 do. Over the last end every number has byte 255, so one will do for all.
+fn capped(s: u32) -> u16
+    ensures { λ r. ⌜ sobelByte r ≡ sobelByte s ⌝ }
+{
+    if s < 65535 {
+        return s as u16;
+    }
+    65535
+}
+
+fn root_byte(s: u32) -> u8
+    ensures { λ r. ⌜ r ≡ sobelByte s ⌝ }
+{
+    let t = capped(s);
+    let mut n = half(t, 0, 128);
+    n = half(t, n, 64);
+    n = half(t, n, 32);
+    n = half(t, n, 16);
+    n = half(t, n, 8);
+    n = half(t, n, 4);
+    n = half(t, n, 2);
+    n = half(t, n, 1);
+    n as u8
 }
 
 // ---- Sobel's bytes, a run of pixels at a time.
@@ -292,53 +324,44 @@ fn energy_of(nine: &[u8]) -> u32
     (x * x + y * y) as u32
 }
 
-fn byte_of(nine: &[u8], ends: &[u32]) -> u8
-    requires { ⌜ (length (now nine) ≡ 9) × Ends (now ends) ⌝ }
+fn byte_of(nine: &[u8]) -> u8
+    requires { ⌜ length (now nine) ≡ 9 ⌝ }
     ensures { λ r. ⌜ r ≡ nineByte (now (nine .entry)) ⌝ }
 {
-    byte_by(ends, energy_of(nine))
+    root_byte(energy_of(nine))
 }
 
 // From index a to index e, through the border.
-fn outer_bytes(
-    pixels: &[u8],
-    size: Size,
-    border: BorderMode,
-    ends: &[u32],
-    a: usize,
-    e: usize,
-    out: &mut [u8],
-)
-    requires { ⌜ Picture size (now pixels) × Run size a e (now out) × Ends (now ends) ⌝ }
+fn outer_bytes(pixels: &[u8], size: Size, border: BorderMode, a: usize, e: usize, out: &mut [u8])
+    requires { ⌜ Picture size (now pixels) × Run size a e (now out) ⌝ }
     ensures { λ _. ⌜ now (out .exit) ≡ written a e (byteOf size border (now (pixels .entry))) (now (out .entry)) ⌝ }
 {
     let mut i = a;
     while i < e {
         let nine = nine_about(pixels, size, border, i % size.width, i / size.width);
-        out[i] = byte_of(&nine, ends);
+        out[i] = byte_of(&nine);
         i += 1;
     }
 }
 
 // From index a to index e, where each pixel has its nine bytes in the picture.
-fn inner_bytes(pixels: &[u8], width: usize, ends: &[u32], a: usize, e: usize, out: &mut [u8])
-    requires { ⌜ Inside (now pixels) width a e × (e ≤ length (now out)) × Ends (now ends) ⌝ }
+fn inner_bytes(pixels: &[u8], width: usize, a: usize, e: usize, out: &mut [u8])
+    requires { ⌜ Inside (now pixels) width a e × (e ≤ length (now out)) ⌝ }
     ensures { λ _. ⌜ now (out .exit) ≡ written a e (byteInside (now (pixels .entry)) width) (now (out .entry)) ⌝ }
 {
     let mut i = a;
     while i < e {
         let nine = nine_inside(pixels, width, i);
-        out[i] = byte_of(&nine, ends);
+        out[i] = byte_of(&nine);
         i += 1;
     }
 }
 
-fn byte_row(pixels: &[u8], size: Size, border: BorderMode, ends: &[u32], y: usize, out: &mut [u8])
+fn byte_row(pixels: &[u8], size: Size, border: BorderMode, y: usize, out: &mut [u8])
     requires { ⌜
         Picture size (now pixels)
         × (y < size .height)
         × (area size ≤ length (now out))
-        × Ends (now ends)
         ⌝ }
     ensures { λ _. ⌜ now (out .exit) ≡ writtenRow size y (byteOf size border (now (pixels .entry))) (now (out .entry)) ⌝ }
 {
@@ -346,23 +369,23 @@ fn byte_row(pixels: &[u8], size: Size, border: BorderMode, ends: &[u32], y: usiz
     let e = a + size.width;
     let n = inner_count(size, y);
     if n == 0 {
-        outer_bytes(pixels, size, border, ends, a, e, out);
+        outer_bytes(pixels, size, border, a, e, out);
         return;
     }
     let first = a + 1;
     let last = first + n;
-    outer_bytes(pixels, size, border, ends, a, first, out);
-    inner_bytes(pixels, size.width, ends, first, last, out);
-    outer_bytes(pixels, size, border, ends, last, e, out);
+    outer_bytes(pixels, size, border, a, first, out);
+    inner_bytes(pixels, size.width, first, last, out);
+    outer_bytes(pixels, size, border, last, e, out);
 }
 
-fn byte_rows(pixels: &[u8], size: Size, border: BorderMode, ends: &[u32], out: &mut [u8])
-    requires { ⌜ Picture size (now pixels) × (area size ≤ length (now out)) × Ends (now ends) ⌝ }
+fn byte_rows(pixels: &[u8], size: Size, border: BorderMode, out: &mut [u8])
+    requires { ⌜ Picture size (now pixels) × (area size ≤ length (now out)) ⌝ }
     ensures { λ _. ⌜ now (out .exit) ≡ filled (area size) (byteOf size border (now (pixels .entry))) (now (out .entry)) ⌝ }
 {
     let mut y = 0;
     while y < size.height {
-        byte_row(pixels, size, border, ends, y, out);
+        byte_row(pixels, size, border, y, out);
         y += 1;
     }
 }
@@ -408,8 +431,7 @@ impl SobelFilter {
             return REFUSED_ROOM;
         }
         let border = self.border;
-        let ends = upper_ends();
-        byte_rows(pixels, size, border, &ends, out);
+        byte_rows(pixels, size, border, out);
         ACCEPTED
     }
 }

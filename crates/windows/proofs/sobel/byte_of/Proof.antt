@@ -8,11 +8,11 @@ use Rattle.windows.proofs.sobel.byte_of.Tie as tie
 energy-of-requires : tie.Need-energy-of-requires
 energy-of-requires c κs = search needs
 
-byte-by-requires : tie.Need-byte-by-requires
-byte-by-requires c κs = search needs
+root-byte-requires : tie.Need-root-byte-requires
+root-byte-requires c κs = search needs
 
 returns : tie.Need-returns
-returns c = c .byte-by .ensures ∙ ap sobelByte (c .before .energy-of .ensures)
+returns c = c .root-byte .ensures ∙ ap sobelByte (c .before .energy-of .ensures)
 
 pub byte-of-spec : {M : Type 1} → statement M
-byte-of-spec = tie.close (tie.spec energy-of-requires byte-by-requires returns)
+byte-of-spec = tie.close (tie.spec energy-of-requires root-byte-requires returns)

@@ -14,22 +14,22 @@ row : (s : tie.Start) → Row (s .args .size) (s .args .y)
 row s = row-of-picture (s .args .size) (now (s .args .pixels)) (s .args .y) (s .pre .0) (s .pre .1)
 
 -- and has inner pixels
-inner : (c : tie.Else1) → let s = c .before .before .before .before .before .before .before in InnerRow (s .args .size) (s .args .y) (c .before .inner-count .result)
+inner : (c : tie.Else1) → let s = c .before .before .before .before .before .before in InnerRow (s .args .size) (s .args .y) (c .before .inner-count .result)
 inner c =
-    let s = c .before .before .before .before .before .before .before in
+    let s = c .before .before .before .before .before .before in
     inner-row (s .args .size) (s .args .y) (c .before .inner-count .result) (row s) (c .before .inner-count .ensures) (omega arith)
 
 mul-a : tie.Need-mul-a
-mul-a c = let r = row (c .before .before .before .before) in omega arith
+mul-a c = let r = row (c .before .before .before) in omega arith
 
 add-e : tie.Need-add-e
-add-e c = let r = row (c .before .before .before .before .before) in omega arith
+add-e c = let r = row (c .before .before .before .before) in omega arith
 
 inner-count-requires : tie.Need-inner-count-requires
 inner-count-requires c κs = search needs
 
 outer-bytes-requires : tie.Need-outer-bytes-requires
-outer-bytes-requires c κs = let r = row (c .before .before .before .before .before .before .before .before) in search needs
+outer-bytes-requires c κs = let r = row (c .before .before .before .before .before .before .before) in search needs
 
 same-length : tie.Need-same-length
 same-length c = search needs
@@ -60,12 +60,12 @@ returns-2 c =
     let e = c .before .before .before .before .before .before .before .before .before .before .before .before in
     let r = inner e in
     let i = e .before .inner-count in
-    let s = e .before .before .before .before .before .before .before in
+    let s = e .before .before .before .before .before .before in
     let d = s .args .size in
     let y = s .args .y in
     let pixels = now (s .args .pixels) in
     let one = c .before .before .before .before .before .before .before .before .before .before .outer-bytes2 in
-    three-runs (byteOf d (s .args .border) pixels) (byteInside pixels (d .width)) (y * d .width) (i .result) (d .width) (now (s .args .out)) _ _ _ (r .columns) (omega arith) (one .kept .1 .1 .1 .1 .1 .1 .0)
+    three-runs (byteOf d (s .args .border) pixels) (byteInside pixels (d .width)) (y * d .width) (i .result) (d .width) (now (s .args .out)) _ _ _ (r .columns) (omega arith) (one .kept .1 .1 .1 .1 .1 .0)
     (λ k. inner-byte-is d (s .args .border) pixels y (i .result) k (i .ensures)) (one .ensures) (c .before .before .before .before .before .before .inner-bytes .ensures) (c .before .before .outer-bytes3 .ensures)
 
 pub byte-row-spec : {M : Type 1} → statement M

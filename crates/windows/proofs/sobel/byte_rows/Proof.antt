@@ -12,14 +12,14 @@ use Rattle.windows.proofs.sobel.byte_rows.Statement.{statement}
 use Rattle.windows.proofs.sobel.byte_rows.Tie as tie
 
 abbrev Inv-loop : tie.InvT-loop
-Inv-loop pixels size border ends out₀ y₀ out y =
+Inv-loop pixels size border out₀ y₀ out y =
     (y ≤ size .height) × (length out ≡ length out₀) × (out ≡ written 0 (y * size .width) (byteOf size border pixels) out₀)
 
 abbrev μ-loop : tie.MeasureT-loop
-μ-loop pixels size border ends out₀ y₀ out y = size .height - y
+μ-loop pixels size border out₀ y₀ out y = size .height - y
 
 loop-holds : tie.Need-loop-holds Inv-loop μ-loop
-loop-holds c = (zero≤, refl, rows-start (c .before .before .before .args .size) _ _)
+loop-holds c = (zero≤, refl, rows-start (c .before .before .args .size) _ _)
 
 byte-row-requires : tie.Need-byte-row-requires Inv-loop μ-loop
 byte-row-requires c κs = search needs
@@ -33,7 +33,7 @@ loop-less c = search needs
 loop-again : tie.Need-loop-again Inv-loop μ-loop
 loop-again c =
     let m = c .before .before .before .before .before .before in
-    let s = m .before .before .before .before in
+    let s = m .before .before .before in
     let a = s .args in (
       search needs,
       search needs,
@@ -46,7 +46,7 @@ same-length c = search needs
 returns : tie.Need-returns Inv-loop μ-loop
 returns c =
     let l = c .before .before .loop in
-    let a = c .before .before .before .before .before .before .args in
+    let a = c .before .before .before .before .before .args in
     let e : l .y ≡ a .size .height = omega arith in
     rows-all (a .size) _ _ (l .y) (l .out) e (l .inv .2)
 

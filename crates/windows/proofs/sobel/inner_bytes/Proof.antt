@@ -12,13 +12,13 @@ use Rattle.windows.proofs.sobel.inner_bytes.Statement.{statement}
 use Rattle.windows.proofs.sobel.inner_bytes.Tie as tie
 
 abbrev Inv-loop : tie.InvT-loop
-Inv-loop pixels width ends a e out₀ i₀ out i = (i ≤ e) × (length out ≡ length out₀) × (a ≤ i) × (out ≡ written a i (byteInside pixels width) out₀)
+Inv-loop pixels width a e out₀ i₀ out i = (i ≤ e) × (length out ≡ length out₀) × (a ≤ i) × (out ≡ written a i (byteInside pixels width) out₀)
 
 abbrev μ-loop : tie.MeasureT-loop
-μ-loop pixels width ends a e out₀ i₀ out i = e - i
+μ-loop pixels width a e out₀ i₀ out i = e - i
 
 loop-holds : tie.Need-loop-holds Inv-loop μ-loop
-loop-holds c = (c .before .before .before .pre .0 .from, refl, omega arith, write-start _ _ _)
+loop-holds c = (c .before .before .pre .0 .from, refl, omega arith, write-start _ _ _)
 
 nine-inside-requires : tie.Need-nine-inside-requires Inv-loop μ-loop
 nine-inside-requires c κs = search needs
@@ -42,7 +42,7 @@ loop-again : tie.Need-loop-again Inv-loop μ-loop
 loop-again c =
     let m = c .before .before .before .before in
     let l = m .loop in
-    let a = m .before .before .before .before .args in
+    let a = m .before .before .before .args in
     let h : l .i < length (now (a .out)) = omega arith in (
       search needs,
       simp length-set (l .inv .1),
@@ -57,7 +57,7 @@ same-length c = search needs
 returns : tie.Need-returns Inv-loop μ-loop
 returns c =
     let l = c .before .loop in
-    let n : l .i ≡ c .before .before .before .before .before .args .e = omega arith in
+    let n : l .i ≡ c .before .before .before .before .args .e = omega arith in
     rw n at (l .inv .3)
 
 pub inner-bytes-spec : {M : Type 1} → statement M

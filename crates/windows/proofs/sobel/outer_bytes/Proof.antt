@@ -13,19 +13,19 @@ use Rattle.windows.proofs.sobel.outer_bytes.Statement.{statement}
 use Rattle.windows.proofs.sobel.outer_bytes.Tie as tie
 
 abbrev Inv-loop : tie.InvT-loop
-Inv-loop pixels size border ends a e out₀ i₀ out i = (i ≤ e) × (length out ≡ length out₀) × (a ≤ i) × (out ≡ written a i (byteOf size border pixels) out₀)
+Inv-loop pixels size border a e out₀ i₀ out i = (i ≤ e) × (length out ≡ length out₀) × (a ≤ i) × (out ≡ written a i (byteOf size border pixels) out₀)
 
 abbrev μ-loop : tie.MeasureT-loop
-μ-loop pixels size border ends a e out₀ i₀ out i = e - i
+μ-loop pixels size border a e out₀ i₀ out i = e - i
 
 -- the pixel that a turn writes has its window
-about : (c : tie.In-loop Inv-loop μ-loop) → let a = c .before .before .before .before .before .args in Window (a .size) (now (a .pixels)) 3 (c .before .loop .i % a .size .width) (c .before .loop .i / a .size .width)
+about : (c : tie.In-loop Inv-loop μ-loop) → let a = c .before .before .before .before .args in Window (a .size) (now (a .pixels)) 3 (c .before .loop .i % a .size .width) (c .before .loop .i / a .size .width)
 about c =
-    let s = c .before .before .before .before .before in
+    let s = c .before .before .before .before in
     window-at (s .args .size) (now (s .args .pixels)) 3 (c .before .loop .i) (s .pre .0) (omega arith) (omega arith) (omega (arith, s .pre .1 .to, c .loop-test .taken))
 
 loop-holds : tie.Need-loop-holds Inv-loop μ-loop
-loop-holds c = (c .before .before .before .pre .1 .from, refl, omega arith, write-start _ _ _)
+loop-holds c = (c .before .before .pre .1 .from, refl, omega arith, write-start _ _ _)
 
 rem-nine-about : tie.Need-rem-nine-about Inv-loop μ-loop
 rem-nine-about c = about (c .before) .picture .wide
@@ -55,7 +55,7 @@ loop-again : tie.Need-loop-again Inv-loop μ-loop
 loop-again c =
     let m = c .before .before .before .before .before .before in
     let l = m .loop in
-    let a = m .before .before .before .before .args in
+    let a = m .before .before .before .args in
     let h : l .i < length (now (a .out)) = omega arith in (
       search needs,
       simp length-set (l .inv .1),
@@ -70,7 +70,7 @@ same-length c = search needs
 returns : tie.Need-returns Inv-loop μ-loop
 returns c =
     let l = c .before .loop in
-    let n : l .i ≡ c .before .before .before .before .before .args .e = omega arith in
+    let n : l .i ≡ c .before .before .before .before .args .e = omega arith in
     rw n at (l .inv .3)
 
 pub outer-bytes-spec : {M : Type 1} → statement M

@@ -22,16 +22,9 @@ returns-2 c =
     let a = e .before .before .before .before .args in
     plain-no-room (a .size) (now (a .pixels)) _ (e .before .picture-refusal .ensures) (now (a .out)) (e .if1 .left) _ (c .if2 .taken)
 
-upper-ends-requires : tie.Need-upper-ends-requires
-upper-ends-requires c κs = search needs
-
-slice-aggregate-byte-rows : tie.Need-slice-aggregate-byte-rows
-slice-aggregate-byte-rows c = search needs
-
 byte-rows-requires : tie.Need-byte-rows-requires
 byte-rows-requires c κs =
-    let e = c .before .before .before .before in
-    let t = c .before .before .upper-ends .ensures in
+    let e = c .before .before in
     let a = e .before .before .before .before .args in
     let p = picture-of (a .size) (now (a .pixels)) _ (e .before .picture-refusal .ensures) (e .if1 .left) in
     search needs
@@ -42,7 +35,7 @@ same-length c = search needs
 returns-3 : tie.Need-returns-3
 unfolding sobel
 returns-3 c =
-    let t = c .before .before .before .before .before .before in
+    let t = c .before .before .before .before in
     let e = t .before in
     let a = e .before .before .before .before .args in
     plain-done (a .size) (now (a .pixels)) _ (e .before .picture-refusal .ensures) (now (a .out)) (e .if1 .left) _ _ (t .if2 .left) (c .before .before .byte-rows .ensures)
@@ -54,8 +47,6 @@ apply-spec =
     picture-refusal-requires
     returns
     returns-2
-    upper-ends-requires
-    slice-aggregate-byte-rows
     byte-rows-requires
     same-length
     returns-3)
