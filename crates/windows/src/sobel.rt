@@ -331,6 +331,14 @@ fn byte_of(nine: &[u8]) -> u8
     root_byte(energy_of(nine))
 }
 
+// By the table: the pixels at the picture's sides are few.
+fn outer_byte(nine: &[u8]) -> u8
+    requires { ⌜ length (now nine) ≡ 9 ⌝ }
+    ensures { λ r. ⌜ r ≡ nineByte (now (nine .entry)) ⌝ }
+{
+    sobel_byte(energy_of(nine))
+}
+
 // From index a to index e, through the border.
 fn outer_bytes(pixels: &[u8], size: Size, border: BorderMode, a: usize, e: usize, out: &mut [u8])
     requires { ⌜ Picture size (now pixels) × Run size a e (now out) ⌝ }
@@ -339,7 +347,7 @@ fn outer_bytes(pixels: &[u8], size: Size, border: BorderMode, a: usize, e: usize
     let mut i = a;
     while i < e {
         let nine = nine_about(pixels, size, border, i % size.width, i / size.width);
-        out[i] = byte_of(&nine);
+        out[i] = outer_byte(&nine);
         i += 1;
     }
 }

@@ -36,11 +36,11 @@ div-nine-about c = about (c .before .before) .picture .wide
 nine-about-requires : tie.Need-nine-about-requires Inv-loop μ-loop
 nine-about-requires c κs = about (c .before .before)
 
-slice-aggregate-byte-of : tie.Need-slice-aggregate-byte-of Inv-loop μ-loop
-slice-aggregate-byte-of c = search needs
+slice-aggregate-outer-byte : tie.Need-slice-aggregate-outer-byte Inv-loop μ-loop
+slice-aggregate-outer-byte c = search needs
 
-byte-of-requires : tie.Need-byte-of-requires Inv-loop μ-loop
-byte-of-requires c κs = search needs
+outer-byte-requires : tie.Need-outer-byte-requires Inv-loop μ-loop
+outer-byte-requires c κs = search needs
 
 slice-write-out : tie.Need-slice-write-out Inv-loop μ-loop
 slice-write-out c = search needs
@@ -61,7 +61,7 @@ loop-again c =
       simp length-set (l .inv .1),
       search needs,
       write-more (a .a) (byteOf (a .size) (a .border) (now (a .pixels))) (now (a .out)) (l .i) (l .out) _ (l .inv .2) h (l .inv .3)
-          (c .byte-of .ensures ∙ ap nineByte (c .before .before .nine-about .ensures) ∙ byte-about-is (a .size) (a .border) (now (a .pixels)) _ _),
+          (c .outer-byte .ensures ∙ ap nineByte (c .before .before .nine-about .ensures) ∙ byte-about-is (a .size) (a .border) (now (a .pixels)) _ _),
     )
 
 same-length : tie.Need-same-length Inv-loop μ-loop
@@ -83,8 +83,8 @@ outer-bytes-spec =
     rem-nine-about
     div-nine-about
     nine-about-requires
-    slice-aggregate-byte-of
-    byte-of-requires
+    slice-aggregate-outer-byte
+    outer-byte-requires
     slice-write-out
     add-i
     loop-less
