@@ -38,19 +38,18 @@ fn any_beyond(stack: &[u32], p: usize, n: usize) -> bool
     false
 }
 
-// Whether one of the first n marks is above 3.
+// Whether one of the first n marks is above 3. It looks at all of them, so that it looks at many at once.
 fn any_above(marks: &[u8], n: usize) -> bool
     requires { ⌜ n ≤ length (now marks) ⌝ }
     ensures { λ r. ⌜ r ≡ anyBelow (λ q. ltb 3 (getD (now (marks .entry)) q 0)) n ⌝ }
 {
+    let mut above = false;
     let mut i = 0;
     while i < n {
-        if MARK_FINISHED < marks[i] {
-            return true;
-        }
+        above = above | (MARK_FINISHED < marks[i]);
         i += 1;
     }
-    false
+    above
 }
 
 // How many of the first n marks are 1.

@@ -64,24 +64,12 @@ pub fn sector(gx: i16, gy: i16) -> u8
 // From this S on the magnitude is 255.
 const CAP: u32 = 65025;
 
-// 4^16 to 4^23.
-const FOURS: [u64; 8] = [
-    4294967296,
-    17179869184,
-    68719476736,
-    274877906944,
-    1099511627776,
-    4398046511104,
-    17592186044416,
-    70368744177664,
-];
-
 // 4^(i + 16).
-fn four_of(i: usize) -> u64
+fn four_of(i: u32) -> u64
     requires { ⌜ i < 8 ⌝ }
     ensures { λ r. ⌜ r ≡ 4 ^ (i + 16) ⌝ }
 {
-    FOURS[i]
+    1u64 << (2 * i + 32)
 }
 
 // A float within 5 in 100 of the root of f, from its bits.
@@ -138,7 +126,7 @@ fn root_from(s: u32, y: f32) -> f32
     ensures { λ r. ⌜ r ≡ rootOf s ⌝ }
 {
     let k = 23 - (31 - u32::leading_zeros(s)) / 2;
-    let t = (s as u64) * four_of((k - 16) as usize);
+    let t = (s as u64) * four_of(k - 16);
     let m = mend(t, digits(y));
     f32::from_bits((150 - k) * 8388608 + ((m - 8388608) as u32))
 }

@@ -1,20 +1,25 @@
--- `four_of` meets its contract: the table is its rule's values in order, which is one computed test. Assumes nothing.
-use Prim.Native.Nat.{_+_, _^_}
+-- `four_of` meets its contract: at each of its eight numbers, which the checker computes. Assumes nothing.
 use borrow.Author.Needs.{needs}
-use Rattle.rules.specs.Picture.{tabulate}
-use Rattle.rules.proofs.Fill.{getD-tabulate}
+use Prim.Native.Nat.{_+_, _*_, _%_, _^_}
+use lib.Dec.{eqb, eqb→eq}
+use Rattle.rules.proofs.Computed.{at}
 use Rattle.suppression.proofs.four_of.Statement.{statement}
 use Rattle.suppression.proofs.four_of.Tie as tie
 
 mul-result : tie.Need-mul-result
 mul-result c = search needs
 
-array-read-result : tie.Need-array-read-result
-array-read-result c = search needs
+add-result : tie.Need-add-result
+add-result c = search needs
+
+cast-result : tie.Need-cast-result
+cast-result c = search needs
+
+shl-result : tie.Need-shl-result
+shl-result c = search needs
 
 returns : tie.Need-returns
-unfolding tabulate
-returns c = getD-tabulate 8 (λ i. 4 ^ (i + 16)) 0 (c .args .i) (c .pre)
+returns c = eqb→eq _ _ (at (λ i. eqb ((1 * 2 ^ (2 * i + 32)) % 18446744073709551616) (4 ^ (i + 16))) 8 tt (c .args .i) (c .pre))
 
 pub four-of-spec : {M : Type 1} → statement M
-four-of-spec = tie.close (tie.spec mul-result array-read-result returns)
+four-of-spec = tie.close (tie.spec mul-result add-result cast-result shl-result returns)

@@ -15,9 +15,6 @@ sub-k-2 c = search needs
 sub-four-of : tie.Need-sub-four-of
 sub-four-of c = shift-is (c .args .s) (c .pre .0) (c .pre .1) .1 .least
 
-cast-four-of : tie.Need-cast-four-of
-cast-four-of c = search needs
-
 four-of-requires : tie.Need-four-of-requires
 four-of-requires c κs = search needs
 
@@ -71,7 +68,6 @@ root-from-spec =
     sub-k
     sub-k-2
     sub-four-of
-    cast-four-of
     four-of-requires
     mul-t
     digits-requires
