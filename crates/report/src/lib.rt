@@ -1,16 +1,16 @@
-// The lines of the programs that run examples: what was got, beside what is wanted. No contract can speak of what is written: that is
-// compared with the program's file stdout, so a line whose two sides differ, or that changes, fails the gate. What the lines test has
-// contracts.
+// The lines of the programs that run examples: what was got, beside what is wanted. A line answers whether its two sides agree, and has a
+// contract for that. No contract can speak of what is written: it is compared with the program's file stdout, so a line whose two sides
+// differ, or that changes, fails the gate. What only writes (heading, words, part) states nothing.
 use libc::STDOUT_FILENO;
 ghost use mathlib.Core.Path.{_≡_};
-ghost use mathlib.Core.Bool.{false};
+ghost use mathlib.Core.Bool.{false, _&&_};
 ghost use lib.Dec.{eqb};
 ghost use mir.Syntax.{w16};
 ghost use mir.Val.{ofZ};
 ghost use lib.IntN.{pos};
 ghost use lib.ListN.{length, getD};
 ghost use lib.Ieee as Ieee;
-ghost use Rattle.report.specs.Tests.{every, shownBits};
+ghost use Rattle.report.specs.Tests.{every, alike, shownBits};
 
 // A line of words alone, over a group of lines.
 pub fn heading(text: &[u8]) {
@@ -29,34 +29,61 @@ pub fn part(text: &[u8], value: u64) {
 }
 
 // A number.
-pub fn number(name: &[u8], got: u64, wanted: u64) {
+pub fn number(name: &[u8], got: u64, wanted: u64) -> bool
+    ensures { λ r. ⌜ r ≡ eqb got wanted ⌝ }
+{
     io::write_all(STDOUT_FILENO, name);
     io::write_all(STDOUT_FILENO, b": got ");
     io::print_decimal(STDOUT_FILENO, got);
     io::write_all(STDOUT_FILENO, b" wanted ");
     io::print_decimal(STDOUT_FILENO, wanted);
     io::write_all(STDOUT_FILENO, b"\n");
+    got == wanted
 }
 
 // A test that is wanted to pass: 1 is yes.
-pub fn yes(name: &[u8], got: bool) {
+pub fn yes(name: &[u8], got: bool) -> bool
+    ensures { λ r. ⌜ r ≡ got ⌝ }
+{
     number(name, if got { 1 } else { 0 }, 1);
+    got
 }
 
 // A call that changes nothing: its number, and its output of sevens.
-pub fn kept(name: &[u8], got: u8, wanted: u8, out: &[u8]) {
-    number(name, got as u64, wanted as u64);
-    yes(b"  the output kept", all_are(out, 7));
+pub fn kept(name: &[u8], got: u8, wanted: u8, out: &[u8]) -> bool
+    ensures { λ r. ⌜ r ≡ eqb got wanted && every (λ i. eqb (getD (now (out .entry)) i 0) 7) (length (now (out .entry))) ⌝ }
+{
+    let answered = number(name, got as u64, wanted as u64);
+    answered & yes(b"  the output kept", all_are(out, 7))
 }
 
 // Bytes, in decimal.
-pub fn bytes(name: &[u8], got: &[u8], wanted: &[u8]) {
+pub fn bytes(name: &[u8], got: &[u8], wanted: &[u8]) -> bool
+    ensures { λ r. ⌜ r ≡ alike eqb 0 (now (got .entry)) (now (wanted .entry)) ⌝ }
+{
     io::write_all(STDOUT_FILENO, name);
     io::write_all(STDOUT_FILENO, b": got");
     decimals(got);
     io::write_all(STDOUT_FILENO, b" wanted");
     decimals(wanted);
     io::write_all(STDOUT_FILENO, b"\n");
+    same_bytes(got, wanted)
+}
+
+// Entry by entry, as far as the first goes; the lengths are the same too.
+fn same_bytes(got: &[u8], wanted: &[u8]) -> bool
+    ensures { λ r. ⌜ r ≡ alike eqb 0 (now (got .entry)) (now (wanted .entry)) ⌝ }
+{
+    if got.len() != wanted.len() {
+        return false;
+    }
+    let mut same = true;
+    let mut i = 0;
+    while i < got.len() {
+        same = same & (got[i] == wanted[i]);
+        i += 1;
+    }
+    same
 }
 
 fn decimals(values: &[u8]) {
@@ -73,13 +100,31 @@ fn decimal(value: u8) {
 }
 
 // Signed numbers, in decimal.
-pub fn numbers(name: &[u8], got: &[i16], wanted: &[i16]) {
+pub fn numbers(name: &[u8], got: &[i16], wanted: &[i16]) -> bool
+    ensures { λ r. ⌜ r ≡ alike (λ a b. eqb (ofZ w16 a) (ofZ w16 b)) (pos 0) (now (got .entry)) (now (wanted .entry)) ⌝ }
+{
     io::write_all(STDOUT_FILENO, name);
     io::write_all(STDOUT_FILENO, b": got");
     signed_decimals(got);
     io::write_all(STDOUT_FILENO, b" wanted");
     signed_decimals(wanted);
     io::write_all(STDOUT_FILENO, b"\n");
+    same_numbers(got, wanted)
+}
+
+fn same_numbers(got: &[i16], wanted: &[i16]) -> bool
+    ensures { λ r. ⌜ r ≡ alike (λ a b. eqb (ofZ w16 a) (ofZ w16 b)) (pos 0) (now (got .entry)) (now (wanted .entry)) ⌝ }
+{
+    if got.len() != wanted.len() {
+        return false;
+    }
+    let mut same = true;
+    let mut i = 0;
+    while i < got.len() {
+        same = same & (got[i] == wanted[i]);
+        i += 1;
+    }
+    same
 }
 
 fn signed_decimals(values: &[i16]) {
@@ -103,13 +148,22 @@ fn signed_decimal(value: i16) {
 }
 
 // A float, by its bits.
-pub fn float(name: &[u8], got: f32, wanted: u32) {
+pub fn float(name: &[u8], got: f32, wanted: u32) -> bool
+    ensures { λ r. ⌜ r ≡ eqb (shownBits got) wanted ⌝ }
+{
     io::write_all(STDOUT_FILENO, name);
     io::write_all(STDOUT_FILENO, b": got ");
     io::print_hex(STDOUT_FILENO, bits(got) as u64, 8);
     io::write_all(STDOUT_FILENO, b" wanted ");
     io::print_hex(STDOUT_FILENO, wanted as u64, 8);
     io::write_all(STDOUT_FILENO, b"\n");
+    has_bits(got, wanted)
+}
+
+fn has_bits(x: f32, wanted: u32) -> bool
+    ensures { λ r. ⌜ r ≡ eqb (shownBits x) wanted ⌝ }
+{
+    bits(x) == wanted
 }
 
 // Every NaN is printed as this one.

@@ -1,0 +1,78 @@
+-- `same_numbers` meets its contract: its test so far, entry by entry, once the lengths are the same. Assumes nothing.
+use borrow.Author.Needs.{needs, zero≤}
+use borrow.Author.Tests.{eq-eqb, ne-eqb}
+use mathlib.Core.Path.{_≡_, refl}
+use native.Mathlib.Omega.{arith}
+use Prim.Native.Nat.{_≤_, _-_}
+use denote.Ref.{now}
+use lib.Dec.{eqb}
+use lib.IntN.{pos}
+use mir.Syntax.{w16}
+use mir.Val.{ofZ}
+use lib.ListN.{length, getD}
+use Rattle.report.specs.Tests.{every, alike}
+use Rattle.report.proofs.Every.{every-more}
+use Rattle.report.proofs.same_numbers.Statement.{statement}
+use Rattle.report.proofs.same_numbers.Tie as tie
+
+abbrev Inv-loop : tie.InvT-loop
+Inv-loop got wanted same₀ i₀ same i =
+    (length got ≡ length wanted) × ((i ≤ length got) × (same ≡ every (λ j. eqb (ofZ w16 (getD got j (pos 0))) (ofZ w16 (getD wanted j (pos 0)))) i))
+
+abbrev μ-loop : tie.MeasureT-loop
+μ-loop got wanted same₀ i₀ same i = length got - i
+
+returns : tie.Need-returns Inv-loop μ-loop
+unfolding alike
+returns c = rw (ne-eqb _ _ (c .if1 .taken))
+
+loop-holds : tie.Need-loop-holds Inv-loop μ-loop
+unfolding every
+loop-holds c = (c .if1 .left, (zero≤, refl))
+
+mul-same : tie.Need-mul-same Inv-loop μ-loop
+mul-same c = search needs
+
+shared-slice-copy-out-same : tie.Need-shared-slice-copy-out-same Inv-loop μ-loop
+shared-slice-copy-out-same c = search needs
+
+mul-same-2 : tie.Need-mul-same-2 Inv-loop μ-loop
+mul-same-2 c = search needs
+
+shared-slice-copy-out-same-2 : tie.Need-shared-slice-copy-out-same-2 Inv-loop μ-loop
+shared-slice-copy-out-same-2 c = omega (arith, c .before .before .loop .inv .0)
+
+add-i : tie.Need-add-i Inv-loop μ-loop
+add-i c = search needs
+
+loop-less : tie.Need-loop-less Inv-loop μ-loop
+loop-less c = search needs
+
+loop-again : tie.Need-loop-again Inv-loop μ-loop
+loop-again c =
+    let l = c .before .before .before .loop in
+    (l .inv .0, (search needs, every-more _ _ _ _ (l .inv .1 .1) refl))
+
+returns-2 : tie.Need-returns-2 Inv-loop μ-loop
+unfolding alike
+returns-2 c =
+    let l = c .before .loop in
+    let e : l .i ≡ length (now (c .before .before .before .args .got)) = omega arith in
+    rw (eq-eqb _ _ (l .inv .0)) (rw e at (l .inv .1 .1))
+
+pub same-numbers-spec : {M : Type 1} → statement M
+same-numbers-spec =
+    tie.close
+    (tie.spec
+    Inv-loop
+    μ-loop
+    returns
+    loop-holds
+    mul-same
+    shared-slice-copy-out-same
+    mul-same-2
+    shared-slice-copy-out-same-2
+    add-i
+    loop-less
+    loop-again
+    returns-2)
