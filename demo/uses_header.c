@@ -136,6 +136,16 @@ static uint8_t start(float low, float high)
                             &lent.pending);
 }
 
+/* How many of the walk's nine marks are this one. */
+static size_t marked(uint8_t mark)
+{
+    size_t count = 0, i;
+    for (i = 0; i < NINE; i++) {
+        count += lent.marks[i] == mark;
+    }
+    return count;
+}
+
 static uint8_t slice(size_t budget)
 {
     return kelontsira_slice(&lent.width, &lent.height, &lent.pending, budget, lent.marks, ROOM, lent.stack, ROOM, &lent.takes);
@@ -231,12 +241,14 @@ static void try_gradient(void)
 
 static void try_walk(void)
 {
-    static const uint8_t wanted[NINE] = {255, 255, 0, 0, 0, 255, 0, 0, 0};
+    static const uint8_t wanted[NINE] = {KELONTSIRA_EDGE, KELONTSIRA_EDGE, 0, 0, 0, KELONTSIRA_EDGE, 0, 0, 0};
     renew();
     CHECK(start(50, 100) == KELONTSIRA_ACCEPTED && lent.width == 3 && lent.height == 3 && lent.pending == 1);
+    CHECK(marked(KELONTSIRA_MARK_PENDING) == 1 && marked(KELONTSIRA_MARK_WEAK) == 3 && marked(KELONTSIRA_MARK_NONE) == 5);
     CHECK(slice(2) == KELONTSIRA_ACCEPTED && lent.takes == 2 && lent.pending == 1);
     CHECK(map_of_walk() == KELONTSIRA_REFUSED_PENDING && all(lent.out, KEPT, ROOM));
     CHECK(slice(5) == KELONTSIRA_ACCEPTED && lent.takes == 1 && lent.pending == 0);
+    CHECK(marked(KELONTSIRA_MARK_FINISHED) == 3 && marked(KELONTSIRA_MARK_WEAK) == 1);
     CHECK(map_of_walk() == KELONTSIRA_ACCEPTED && memcmp(lent.out, wanted, NINE) == 0 && lent.out[NINE] == KEPT);
     CHECK(slice(1) == KELONTSIRA_ACCEPTED && lent.takes == 0);
     CHECK(start(0, 100) == KELONTSIRA_ACCEPTED && slice(9) == KELONTSIRA_ACCEPTED && lent.takes == 9 && lent.pending == 0);

@@ -55,6 +55,14 @@ extern "C" {
 #define KELONTSIRA_REFUSED_PENDING 10  /* a map is asked for while pixels are pending */
 #define KELONTSIRA_REFUSED_BORDER 255  /* not one of the three border modes */
 
+/* ---- Entries of a map and of a walk's marks */
+
+#define KELONTSIRA_EDGE 255        /* in a map: an edge; 0 elsewhere */
+#define KELONTSIRA_MARK_NONE 0     /* below low, or NaN */
+#define KELONTSIRA_MARK_WEAK 1     /* at or above low, and joined to nothing yet */
+#define KELONTSIRA_MARK_PENDING 2  /* on the stack */
+#define KELONTSIRA_MARK_FINISHED 3 /* taken: an edge of the map */
+
 /* ---- Filters: a byte picture in, a byte picture out (first width * height entries) */
 
 /* Where coordinate `coord` of a side of 1 to 640 is read: *place is below `side`, or `side` itself where the sample is 0 (only under
