@@ -8,6 +8,7 @@ mod ours;
 mod pictures;
 mod random;
 mod refusals;
+mod room;
 mod runner;
 mod stages;
 mod vectors;

@@ -1,8 +1,9 @@
 //! The buffers and numbers that a request lends, all poisoned, and the call itself.
 
 use crate::lent::Lent;
-use crate::ours::{self, Frame, Scratch, Taps, Walk};
+use crate::ours::{self, Frame, Taps, Walk};
 use crate::random::Random;
+use crate::room::Room;
 
 use super::asked::{Asked, Call, BLURRED, GX, GY, MAGNITUDE, MARKS, OUT, STACK, WORK};
 
@@ -13,13 +14,7 @@ pub struct Bench {
     gy_in: Lent<i16>,
     weights: Lent<f32>,
     vertical: Lent<f32>,
-    work: Lent<f32>,
-    magnitude: Lent<f32>,
-    gx: Lent<i16>,
-    gy: Lent<i16>,
-    blurred: Lent<u8>,
-    marks: Lent<u8>,
-    stack: Lent<u32>,
+    room: Room,
     out: Lent<u8>,
     walk: Walk,
     number: usize,
@@ -49,13 +44,15 @@ impl Bench {
             gy_in: Lent::poisoned(asked.inputs[2], random),
             weights: Lent::holding(&asked.weights, random),
             vertical: Lent::holding(&asked.vertical, random),
-            work: Lent::poisoned(asked.room[WORK], random),
-            magnitude: Lent::poisoned(asked.room[MAGNITUDE], random),
-            gx: Lent::poisoned(asked.room[GX], random),
-            gy: Lent::poisoned(asked.room[GY], random),
-            blurred: Lent::poisoned(asked.room[BLURRED], random),
-            marks,
-            stack,
+            room: Room {
+                work: Lent::poisoned(asked.room[WORK], random),
+                magnitude: Lent::poisoned(asked.room[MAGNITUDE], random),
+                gx: Lent::poisoned(asked.room[GX], random),
+                gy: Lent::poisoned(asked.room[GY], random),
+                blurred: Lent::poisoned(asked.room[BLURRED], random),
+                marks,
+                stack,
+            },
             out: Lent::poisoned(asked.room[OUT], random),
             walk,
             number,
@@ -78,7 +75,7 @@ impl Bench {
     fn call_filter(&mut self, asked: &Asked) -> u8 {
         let (sides, border) = (asked.sides, asked.border);
         let (pixels, weights, vertical) = (self.pixels.lend(), self.weights.lend(), self.vertical.lend());
-        let (work, out) = (self.work.lend_mut(), self.out.lend_mut());
+        let (work, out) = (self.room.work.lend_mut(), self.out.lend_mut());
         match asked.call {
             Call::Kernel => ours::apply_kernel(pixels, sides, asked.sizes, weights, border, out),
             Call::Separable => {
@@ -98,15 +95,15 @@ impl Bench {
         let (gx, gy) = (self.gx_in.lend(), self.gy_in.lend());
         match asked.call {
             Call::Gradients => {
-                ours::sobel_gradients(self.pixels.lend(), sides, asked.border, self.gx.lend_mut(), self.gy.lend_mut())
+                ours::sobel_gradients(self.pixels.lend(), sides, asked.border, self.room.gx.lend_mut(), self.room.gy.lend_mut())
             }
-            Call::Magnitude => ours::gradient_magnitude(gx, gy, sides, self.magnitude.lend_mut()),
-            _ => ours::non_maximum_suppression(self.magnitudes.lend(), gx, gy, sides, self.magnitude.lend_mut()),
+            Call::Magnitude => ours::gradient_magnitude(gx, gy, sides, self.room.magnitude.lend_mut()),
+            _ => ours::non_maximum_suppression(self.magnitudes.lend(), gx, gy, sides, self.room.magnitude.lend_mut()),
         }
     }
 
     fn call_walk(&mut self, asked: &Asked) -> u8 {
-        let Bench { marks, stack, walk, number, .. } = self;
+        let Bench { room: Room { marks, stack, .. }, walk, number, .. } = self;
         match asked.call {
             Call::Start => {
                 let magnitudes = self.magnitudes.lend();
@@ -124,16 +121,7 @@ impl Bench {
             taps: self.weights.lend(),
             thresholds: asked.thresholds,
         };
-        let scratch = Scratch {
-            work: self.work.lend_mut(),
-            magnitude: self.magnitude.lend_mut(),
-            gx: self.gx.lend_mut(),
-            gy: self.gy.lend_mut(),
-            blurred: self.blurred.lend_mut(),
-            marks: self.marks.lend_mut(),
-            stack: self.stack.lend_mut(),
-        };
-        ours::canny(&frame, scratch, self.out.lend_mut(), &mut self.number)
+        ours::canny(&frame, self.room.lend(), self.out.lend_mut(), &mut self.number)
     }
 
     /// Nothing that was lent has changed: no entry, no guard, no number.
@@ -155,8 +143,8 @@ impl Bench {
             return Err("a number changed that the call does not write".into());
         }
         if asked.call == Call::Map {
-            self.marks.unchanged("marks")?;
-            self.stack.unchanged("stack")?;
+            self.room.marks.unchanged("marks")?;
+            self.room.stack.unchanged("stack")?;
         }
         Ok(())
     }
@@ -169,13 +157,7 @@ impl Bench {
         self.gy_in.unchanged("gy as input")?;
         self.weights.unchanged("weights")?;
         self.vertical.unchanged("vertical taps")?;
-        self.work.same_outside(n, "work")?;
-        self.magnitude.same_outside(n, "magnitude")?;
-        self.gx.same_outside(n, "gx")?;
-        self.gy.same_outside(n, "gy")?;
-        self.blurred.same_outside(n, "blurred")?;
-        self.marks.same_outside(n, "marks")?;
-        self.stack.same_outside(n, "stack")?;
+        self.room.same_outside(n)?;
         self.out.same_outside(n, "out")
     }
 }

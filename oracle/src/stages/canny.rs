@@ -2,9 +2,10 @@
 
 use crate::lent::Lent;
 use crate::numbers;
-use crate::ours::{self, Frame, Scratch};
+use crate::ours::{self, Frame};
 use crate::pictures::{digits, list, Picture};
 use crate::random::Random;
+use crate::room::Room;
 use crate::runner::{Case, Stage};
 use crate::vendor;
 
@@ -65,53 +66,6 @@ fn any_taps(random: &mut Random) -> Vec<f32> {
     }
     let count = numbers::odd(63, random);
     numbers::weights(count, random)
-}
-
-/// The seven scratch buffers, poisoned.
-struct Room {
-    work: Lent<f32>,
-    magnitude: Lent<f32>,
-    gx: Lent<i16>,
-    gy: Lent<i16>,
-    blurred: Lent<u8>,
-    marks: Lent<u8>,
-    stack: Lent<u32>,
-}
-
-impl Room {
-    fn poisoned(n: usize, random: &mut Random) -> Room {
-        Room {
-            work: Lent::roomy(n, random),
-            magnitude: Lent::roomy(n, random),
-            gx: Lent::roomy(n, random),
-            gy: Lent::roomy(n, random),
-            blurred: Lent::roomy(n, random),
-            marks: Lent::roomy(n, random),
-            stack: Lent::roomy(n, random),
-        }
-    }
-
-    fn lend(&mut self) -> Scratch<'_> {
-        Scratch {
-            work: self.work.lend_mut(),
-            magnitude: self.magnitude.lend_mut(),
-            gx: self.gx.lend_mut(),
-            gy: self.gy.lend_mut(),
-            blurred: self.blurred.lend_mut(),
-            marks: self.marks.lend_mut(),
-            stack: self.stack.lend_mut(),
-        }
-    }
-
-    fn zeroed(&self, n: usize) -> Result<(), String> {
-        self.work.zeroed(n, "work")?;
-        self.magnitude.zeroed(n, "magnitude")?;
-        self.gx.zeroed(n, "gx")?;
-        self.gy.zeroed(n, "gy")?;
-        self.blurred.zeroed(n, "blurred")?;
-        self.marks.zeroed(n, "marks")?;
-        self.stack.zeroed(n, "stack")
-    }
 }
 
 impl Case for Run {
