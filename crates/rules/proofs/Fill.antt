@@ -6,8 +6,8 @@ use Prim.Native.Nat.{ℕ, zero, suc, _+_, _-_, _<_, _≤_}
 use native.Mathlib.Nat.{eq-or-lt-of-le, add-zero, add-suc}
 use native.Mathlib.Numerals.{add-one, one-add}
 use native.Mathlib.Omega.{arith}
-use lib.ListN.{length, getD, take, drop, set, length-append, length-drop, length-take, length-set, drop-of-length-le, List·getD-append}
-use lib.Seq.{drop-cons, set-at, drop-append-add, drop-drop, drop-at, take-at, getD-at, getD-drop, getD-take}
+use lib.ListN.{length, getD, take, drop, set, length-append, length-drop, length-take, length-set, drop-of-length-le, take-append-drop, List·getD-append}
+use lib.Seq.{length-take-le, drop-cons, set-at, drop-append-add, drop-drop, drop-at, take-at, getD-at, getD-drop, getD-take}
 use borrow.Rule.Slice.PartMut.{putMid, midOf}
 use Rattle.rules.specs.Picture.{tabulate, filled}
 
@@ -137,6 +137,14 @@ module _ {A : Type 0} where
   -- the first n entries as the code lends them
   pub first-part : (n : ℕ) (l : List A) → take (n - 0) (drop 0 l) ≡ take n l
   first-part n l = let z : n - 0 ≡ n = omega arith in rw z
+
+  -- a buffer whose first n entries are f's and whose others are as they were
+  pub filled-by : (n : ℕ) (f : ℕ → A) (o l : List A) (z : A) → n ≤ length l → ((i : ℕ) → i < n → getD l i z ≡ f i) → drop n l ≡ drop n o → l ≡ filled n f o
+  filled-by n f o l z h p d =
+      let e : length (take n l) ≡ n = length-take-le n l h in
+      let t : take n l ≡ tabulate n f =
+      sym (tabulate-getD (take n l) z) ∙ ap (λ (k : ℕ). tabulate k (λ i. getD (take n l) i z)) e ∙ tabulate-cong n _ f (λ i q. getD-take n l i z q ∙ p i q) in
+      sym (take-append-drop n l) ∙ rw (t, d)
 
   -- ---- fillings in turn
 

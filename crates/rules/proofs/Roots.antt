@@ -8,7 +8,7 @@ use native.Mathlib.Omega.{arith}
 use lib.Dec.{leb, ltb}
 use lib.Pow.{pow-add}
 use borrow.Author.Tests.{leb-true, leb-false, ltb-true, ltb-false}
-use Rattle.rules.specs.Root.{capS, scaled, NearestRoot, wholeRoot, nearRoot, shiftOf, rootOf, upperEnd, leastFrom, sobelByte}
+use Rattle.rules.specs.Root.{capS, scaled, NearestRoot, Near, wholeRoot, nearRoot, shiftOf, rootOf, upperEnd, leastFrom, sobelByte}
 
 -- (2a)² and (a + 1)²
 dbl-sq : (a : ℕ) → 2 * a * (2 * a) ≡ 4 * (a * a)
@@ -42,10 +42,6 @@ whole (suc d) t h =
 
 -- ---- the whole number nearest the root of t: two tests, which only one number passes
 
-pub record Near (t m : ℕ) : Type 0 where
-  pub low : m * m < t + m
-  pub high : t ≤ m * m + m
-
 apart : (t a b : ℕ) → Near t a → Near t b → a < b → ⊥
 apart t a (suc b) p q h = let l : a ≤ b = omega arith in lt-irrefl t (omega (arith, suc-sq b, mul-le-mul l l))
 
@@ -66,6 +62,15 @@ near-is t p h = go _ (wholeRoot 24 t) refl (whole 24 t h)
 pub near-of : (s m k : ℕ) → NearestRoot s m k → Near (s * 4 ^ k) m
 near-of s m k n = record { low = omega (arith, less-sq m (omega arith)); high = omega (arith, dbl-sq m, suc-sq (2 * m)) }
 
+pub nearest-of : (s m k : ℕ) → 2 ^ 23 ≤ m → m < 2 ^ 24 → Near (s * 4 ^ k) m → NearestRoot s m k
+nearest-of s m k l u n =
+    record {
+      least = l;
+      most = omega arith;
+      above = omega (arith, less-sq m (omega arith));
+      below = omega (arith, dbl-sq m, suc-sq (2 * m));
+    }
+
 -- s brought between 2^46 and the last gap below 2^48, where the nearest root has 24 binary digits
 pub record Scaled (s k : ℕ) : Type 0 where
   pub low : 2 ^ 46 ≤ s * 4 ^ k
@@ -75,12 +80,7 @@ pub nearest : (s m k : ℕ) → Scaled s k → Near (s * 4 ^ k) m → NearestRoo
 nearest s m k c n =
     let l : m < 2 ^ 23 → ⊥ = λ h. let q : m ≤ 2 ^ 23 - 1 = omega arith in lt-irrefl (s * 4 ^ k) (omega (arith, mul-le-mul q q)) in
     let u : 2 ^ 24 ≤ m → ⊥ = λ h. lt-irrefl (s * 4 ^ k) (omega (arith, mul-le-mul-left m h)) in
-    record {
-      least = omega arith;
-      most = omega arith;
-      above = omega (arith, less-sq m (omega arith));
-      below = omega (arith, dbl-sq m, suc-sq (2 * m));
-    }
+    nearest-of s m k (omega arith) (omega arith) n
 
 -- there is one: the shift brings s there
 by : (P : ℕ → Type 0) (b : Bool) (s c x y : ℕ) → ltb s c ≡ b → (s < c → P x) → (c ≤ s → P y) → P (cond b x y)

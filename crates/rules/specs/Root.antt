@@ -22,6 +22,12 @@ pub record NearestRoot (s m k : ℕ) : Type 0 where
   pub above : (2 * m - 1) * (2 * m - 1) < 4 * (s * 4 ^ k)
   pub below : 4 * (s * 4 ^ k) < (2 * m + 1) * (2 * m + 1)
 
+-- What the whole number m nearest the root of t passes, and no other (proofs/Roots): (2m - 1)² < 4t < (2m + 1)² with the squares written
+-- out, where t is whole.
+pub record Near (t m : ℕ) : Type 0 where
+  pub low : m * m < t + m
+  pub high : t ≤ m * m + m
+
 -- and this computes it. The whole root of a t below 4^d, one binary digit at a time:
 unfoldable pub wholeRoot : ℕ → ℕ → ℕ
 wholeRoot zero t = 0

@@ -1,12 +1,11 @@
 -- What a guess owes before its bits are read: that it is no NaN. Assumes nothing.
 use mathlib.Core.Path.{_≡_, sym, subst}
-use mathlib.Core.Bool.{true, not, _&&_}
+use mathlib.Core.Bool.{true, not}
 use Prim.Native.Nat.{ℕ, _%_, _<_, _≤_}
 use native.Mathlib.Omega.{arith}
 use lib.Dec.{T}
-use lib.Ieee.{Float, nan, inf, fin, binary32, binary64, lt, isNan, nanBits, fits}
+use lib.Ieee.{Float, nan, inf, fin, binary32, lt, eq, le, isNan, nanBits}
 use lib.Ieee.Bits.{nanBits-above}
-use lib.Ieee.Fits.{and-i, fits-widens}
 use borrow.Author.Tests.{le-ltb}
 
 -- what is above another number is one
@@ -18,8 +17,14 @@ no-nan nan nan e = subst T (sym e) tt
 no-nan (inf s) nan e = subst T (sym e) tt
 no-nan (fin s m d) nan e = subst T (sym e) tt
 
-pub widens : (z y : Float) → T (fits binary32 y) → lt z y ≡ true → T (fits binary64 y && not (isNan y))
-widens z y f e = and-i (fits binary64 y) (not (isNan y)) (fits-widens y f) (no-nan z y e)
+-- and what is at least another
+pub no-nan-le : (z x : Float) → le z x ≡ true → T (not (isNan x))
+unfolding le lt eq isNan
+no-nan-le z (inf s) e = tt
+no-nan-le z (fin s m d) e = tt
+no-nan-le nan nan e = subst T (sym e) tt
+no-nan-le (inf s) nan e = subst T (sym e) tt
+no-nan-le (fin s m d) nan e = subst T (sym e) tt
 
 -- the pattern of a positive finite f32
 pub low-bits : (n : ℕ) → n < 0x7f80_0000 → T (not (nanBits binary32 n))

@@ -2,7 +2,7 @@
 use mathlib.Core.Path.{_≡_, refl, ap, _∙_}
 use mathlib.Core.Bool.{Bool, true, false, not, cond, _&&_, Bool·beq}
 use Prim.Native.Nat.{ℕ, _+_, _*_, _^_, _<_, _≤_, zero-le}
-use native.Mathlib.Nat.{mul-le-mul, zero-add}
+use native.Mathlib.Nat.{add-mul, mul-add, mul-comm, mul-le-mul, zero-add}
 use native.Mathlib.Omega.{arith}
 use mathlib.Core.List.{List}
 use lib.Dec.{T, eqb}
@@ -60,16 +60,15 @@ module _ (g : ℤ) (f : SFits w16 g) where
 
 -- ---- the products of two sizes fit
 
--- S
-pub square-small : (a : ℕ) → a ≤ 2 ^ 15 → a * a ≤ 2 ^ 30
-square-small a h = mul-le-mul h h
+pub product-small : (a b : ℕ) → a ≤ 2 ^ 15 → b ≤ 2 ^ 15 → a * b ≤ 2 ^ 30
+product-small a b h k = mul-le-mul h k
 
 pub energy-is : (gx gy : ℤ) (a b : ℕ) → a ≡ natAbs gx → b ≡ natAbs gy → a * a + b * b ≡ energy gx gy
 energy-is gx gy a b p q = rw (p, q)
 
 -- (a + b)²
-pub sum-small : (a b : ℕ) → a ≤ 2 ^ 15 → b ≤ 2 ^ 15 → (a + b) * (a + b) ≤ 2 ^ 32
-sum-small a b h k = let l : a + b ≤ 2 ^ 16 = omega arith in mul-le-mul l l
+sum-square : (a b : ℕ) → (a + b) * (a + b) ≡ a * a + 2 * (a * b) + b * b
+sum-square a b = omega (arith, add-mul a b (a + b), mul-add a a b, mul-add b a b, mul-comm b a)
 
 -- ---- the sector, test by test
 
@@ -102,19 +101,28 @@ module _ (gx gy : ℤ) (a b : ℕ) (p : a ≡ natAbs gx) (q : b ≡ natAbs gy) w
         go true false e f = refl
         go false y e f = refl
 
-    pub along-x : (a + b) * (a + b) < 2 * (a * a) → 0 ≡ sectorOf gx gy
+    pub along-x : 2 * (a * b) + b * b < a * a → 0 ≡ sectorOf gx gy
     unfolding sectorOf
-    along-x t = rw (← p, ← q, some, lt-ltb _ _ t)
+    along-x t =
+        let l : (a + b) * (a + b) < 2 * (a * a) = omega (arith, sum-square a b) in
+        rw (← p, ← q, some, lt-ltb _ _ l)
 
-    module _ (u : 2 * (a * a) ≤ (a + b) * (a + b)) where
-      pub along-y : (a + b) * (a + b) < 2 * (b * b) → 90 ≡ sectorOf gx gy
+    module _ (u : a * a ≤ 2 * (a * b) + b * b) where
+      not-x : 2 * (a * a) ≤ (a + b) * (a + b)
+      not-x = omega (arith, sum-square a b)
+
+      pub along-y : 2 * (a * b) + a * a < b * b → 90 ≡ sectorOf gx gy
       unfolding sectorOf
-      along-y t = rw (← p, ← q, some, le-ltb _ _ u, lt-ltb _ _ t)
+      along-y t =
+          let l : (a + b) * (a + b) < 2 * (b * b) = omega (arith, sum-square a b) in
+          rw (← p, ← q, some, le-ltb _ _ not-x, lt-ltb _ _ l)
 
-      module _ (v : 2 * (b * b) ≤ (a + b) * (a + b)) where
+      module _ (v : b * b ≤ 2 * (a * b) + a * a) where
         pub diagonal : (s : Bool) → Bool·beq (nonNeg gx) (nonNeg gy) ≡ s → cond s 45 135 ≡ sectorOf gx gy
         unfolding sectorOf
-        diagonal s e = rw (← p, ← q, some, le-ltb _ _ u, le-ltb _ _ v, e)
+        diagonal s e =
+            let l : 2 * (b * b) ≤ (a + b) * (a + b) = omega (arith, sum-square a b) in
+            rw (← p, ← q, some, le-ltb _ _ not-x, le-ltb _ _ l, e)
 
 -- the magnitude at i
 pub magnitude-at : (gx gy : List ℤ) (i s : ℕ) (r : Float) → s ≡ energy (getD gx i (pos 0)) (getD gy i (pos 0)) → r ≡ magnitudeOf s → r ≡ magnitudeAt gx gy i

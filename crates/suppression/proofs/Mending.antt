@@ -40,7 +40,7 @@ less-reaches m t h l =
 
 -- ---- the scale, by the leading zeros
 
-four : (i : ℕ) → 4 ^ i ≡ 2 ^ (i + i)
+pub four : (i : ℕ) → 4 ^ i ≡ 2 ^ (i + i)
 four zero = refl
 four (suc i) =
     let e : suc i + suc i ≡ suc (suc (i + i)) = omega arith in

@@ -3,25 +3,28 @@
 use mathlib.Core.Path.{_≡_, refl, sym, ap, _∙_}
 use mathlib.Core.Bool.{Bool, true, false, cond, _&&_, and-true, and-false}
 use mathlib.Core.List.{List}
-use Prim.Native.Nat.{ℕ, _+_, _-_, _*_, _<_, _≤_}
+use mathlib.Core.Logic.{⊎-elim, _⊎_}
+use Prim.Native.Nat.{ℕ, _+_, _-_, _*_, _/_, _%_, _<_, _≤_}
 use native.Mathlib.Nat.{add-mul, add-zero, mul-zero, mul-one}
 use native.Mathlib.Omega.{arith}
 use lib.Dec.{ltb, eqb}
-use lib.ListN.{getD}
+use lib.ListN.{length, getD}
 use lib.IntN.{ℤ, pos, negsuc, natAbs, _+ℤ_, _*ℤ_}
 use lib.Ieee.{Float, nan}
 use borrow.Author.Tests.{ltb-true, lt-ltb, le-ltb, ne-eqb}
-use Rattle.rules.specs.Picture.{filled, cleared}
+use borrow.Rule.Slice.PartMut.{putMid, midOf}
+use Rattle.rules.specs.Picture.{area, byPixel, filled, cleared}
 use Rattle.rules.specs.Sums.{plusZero}
 use Rattle.rules.specs.Sector.{Offset, offset, sectorOf, neighbours}
 use Rattle.rules.specs.Suppression.{inner, keeps, suppressedAt}
 use Rattle.rules.specs.declared.Size.{Size}
 use Rattle.rules.proofs.Bools.{both}
-use Rattle.rules.proofs.Fill.{recount}
-use Rattle.rules.proofs.Grid.{row-in}
+use Rattle.rules.specs.Calls.{painted}
+use Rattle.rules.proofs.Fill.{Filling, filling-part, recount}
+use Rattle.rules.proofs.Grid.{row-in, row-of, column-of}
 use Rattle.rules.proofs.Border.{diff}
-use Rattle.suppression.specs.Lent.{StepIs, AnyRow, InnerRow}
-use Rattle.suppression.specs.Steps.{stepOf, keptAt, rowAt}
+use Rattle.suppression.specs.Lent.{Pictures, InnerRow}
+use Rattle.suppression.specs.Steps.{stepOf, atStep, keptAt, rowAt}
 
 -- one back from n
 back : (n : ℕ) → 0 < n → natAbs (pos n +ℤ negsuc 0) ≡ n - 1
@@ -71,24 +74,55 @@ opposite w x y l h k =
       after = simp mul-one (omega (arith, add-mul y 1 w));
     })
 
--- ---- the code's match
+-- ---- the code's match, and the four that it chooses from
 
-module _ (sector w : ℕ) (l : 0 < w) where
-  pub step-0 : sector ≡ 0 → StepIs sector w 1
+module _ (sector : ℕ) where
+  pub step-0 : sector ≡ 0 → 1 ≡ stepOf sector 3
   unfolding neighbours
-  step-0 e = record { is = rw e (omega (arith, mul-zero w)); most = omega arith }
+  step-0 e = rw e
 
-  pub step-45 : sector ≡ 45 → StepIs sector w (w - 1)
+  pub step-45 : sector ≡ 45 → 2 ≡ stepOf sector 3
   unfolding neighbours
-  step-45 e = record { is = rw e (simp (mul-one, back w l)); most = omega arith }
+  step-45 e = rw e
 
-  pub step-90 : sector ≡ 90 → StepIs sector w w
+  pub step-90 : sector ≡ 90 → 3 ≡ stepOf sector 3
   unfolding neighbours
-  step-90 e = record { is = rw e (omega (arith, mul-one w)); most = omega arith }
+  step-90 e = rw e
 
-  pub step-135 : (sector ≡ 0 → ⊥) → (sector ≡ 45 → ⊥) → (sector ≡ 90 → ⊥) → StepIs sector w (w + 1)
+  pub step-135 : (sector ≡ 0 → ⊥) → (sector ≡ 45 → ⊥) → (sector ≡ 90 → ⊥) → 4 ≡ stepOf sector 3
   unfolding neighbours
-  step-135 a b c = record { is = simp (ne-eqb sector 0 a, ne-eqb sector 45 b, ne-eqb sector 90 c, mul-one); most = omega arith }
+  step-135 a b c = rw (ne-eqb sector 0 a, ne-eqb sector 45 b, ne-eqb sector 90 c)
+
+-- at any width the four stand one entry away, or in the row beside
+module _ (m : List Float) (w i : ℕ) (l : 0 < w) where
+  one : 1 ≡ stepBy w (offset (pos 1) (pos 0))
+  one = omega (arith, mul-zero w)
+
+  two : w - 1 ≡ stepBy w (offset (negsuc 0) (pos 1))
+  two = simp (mul-one, back w l)
+
+  three : w ≡ stepBy w (offset (pos 0) (pos 1))
+  three = omega (arith, mul-one w)
+
+  four : w + 1 ≡ stepBy w (offset (pos 1) (pos 1))
+  four = simp mul-one
+
+  at : {j k : ℕ} → j ≡ k → getD m j nan ≡ getD m k nan
+  at e = ap (λ (k : ℕ). getD m k nan) e
+
+  pub before-is : w ≤ i → (sector : ℕ)
+      → atStep (stepOf sector 3) (getD m (i - 1) nan) (getD m (i - w + 1) nan) (getD m (i - w) nan) (getD m (i - w - 1) nan) ≡ getD m (i - stepOf sector w) nan
+  unfolding atStep
+  before-is h =
+      rows (λ n. atStep (stepBy 3 (n .1)) (getD m (i - 1) nan) (getD m (i - w + 1) nan) (getD m (i - w) nan) (getD m (i - w - 1) nan) ≡ getD m (i - stepBy w (n .1)) nan)
+      (at (omega (arith, one))) (at (omega (arith, two))) (at (omega (arith, three))) (at (omega (arith, four)))
+
+  pub after-is : (sector : ℕ)
+      → atStep (stepOf sector 3) (getD m (i + 1) nan) (getD m (i + w - 1) nan) (getD m (i + w) nan) (getD m (i + w + 1) nan) ≡ getD m (i + stepOf sector w) nan
+  unfolding atStep
+  after-is =
+      rows (λ n. atStep (stepBy 3 (n .1)) (getD m (i + 1) nan) (getD m (i + w - 1) nan) (getD m (i + w) nan) (getD m (i + w + 1) nan) ≡ getD m (i + stepBy w (n .1)) nan)
+      (at (omega (arith, one))) (at (omega (arith, two))) (at (omega (arith, three))) (at (omega (arith, four)))
 
 -- ---- a pixel
 
@@ -138,11 +172,17 @@ module _ (d : Size) (m : List Float) (gx gy : List ℤ) (x y : ℕ) where
       go true t = rw (sym column ∙ t) (inner-is t)
       go false t = rw (sym column ∙ t) (zero-is t)
 
--- what the code does at pixel i, by the step that it took
-pub kept-is : (w : ℕ) (m : List Float) (gx gy : List ℤ) (i sector step : ℕ) → sector ≡ sectorOf (getD gx i (pos 0)) (getD gy i (pos 0)) → step ≡ stepOf sector w
-    → (b : Bool) → keeps (getD m i nan) (getD m (i - step) nan) (getD m (i + step) nan) ≡ b → cond b (getD m i nan) plusZero ≡ keptAt w m gx gy i
+-- what the code does at pixel i, by the step that it took and the two magnitudes that it chose
+pub kept-is : (w : ℕ) (m : List Float) (gx gy : List ℤ) (i sector step : ℕ) (a b r : Float) → 0 < w → w ≤ i
+    → sector ≡ sectorOf (getD gx i (pos 0)) (getD gy i (pos 0)) → step ≡ stepOf sector 3
+    → a ≡ atStep step (getD m (i - 1) nan) (getD m (i - w + 1) nan) (getD m (i - w) nan) (getD m (i - w - 1) nan)
+    → b ≡ atStep step (getD m (i + 1) nan) (getD m (i + w - 1) nan) (getD m (i + w) nan) (getD m (i + w + 1) nan)
+    → r ≡ cond (keeps (getD m i nan) a b) (getD m i nan) plusZero → r ≡ keptAt w m gx gy i
 unfolding keptAt
-kept-is w m gx gy i sector step e s b k = rw (← e, ← s, k)
+kept-is w m gx gy i sector step a b r l h e s p q k =
+    let x : a ≡ getD m (i - stepOf sector w) nan = p ∙ rw s (before-is m w i l h sector) in
+    let y : b ≡ getD m (i + stepOf sector w) nan = q ∙ rw s (after-is m w i l sector) in
+    k ∙ rw (x, y, ← e)
 
 -- along an inner row: its first column, its last, and those between
 module _ (w : ℕ) (m : List Float) (gx gy : List ℤ) (start : ℕ) where
@@ -171,16 +211,39 @@ module _ (d : Size) (m : List Float) (gx gy : List ℤ) (y n : ℕ) (e : n ≡ d
       recount (d .width) (rowAt (d .width) m gx gy start) (λ x. suppressedAt d m gx gy x y) o r (rw e at p)
       (λ x h. row-is d m gx gy x y start b k u)
 
+-- and as a part of the picture, from `start` to `end`
+module _ (d : Size) (m : List Float) (gx gy : List ℤ) (y start end : ℕ) (k : y < d .height) (b : start ≡ y * d .width) (q : end ≡ start + d .width) where
+  pub row-ends : end ≤ area d
+  row-ends = omega (arith, row-in y (d .width) (d .height) k)
+
+  pub put-row : (o l part : List Float) → area d ≤ length o → Filling (area d) start (byPixel d (suppressedAt d m gx gy)) o l
+      → part ≡ filled (d .width) (λ x. suppressedAt d m gx gy x y) (midOf start (end - start) l)
+      → Filling (area d) end (byPixel d (suppressedAt d m gx gy)) o (putMid start (end - start) l part)
+  put-row o l part h p t =
+      let r = row-ends in
+      rw q
+      (filling-part (area d) start (d .width) (byPixel d (suppressedAt d m gx gy)) (λ x. suppressedAt d m gx gy x y) o l part h (omega arith) p (rw q at t)
+      (λ x c. rw (b, column-of y c, row-of y c)))
+
+-- where a side is under 3 all is +0
+pub narrow-is : (d : Size) (m : List Float) (gx gy : List ℤ) (o r : List Float) → (d .width < 3) ⊎ (d .height < 3) → r ≡ cleared (area d) plusZero o
+    → r ≡ painted d (suppressedAt d m gx gy) o
+narrow-is d m gx gy o r n p =
+    recount (area d) (λ i. plusZero) (byPixel d (suppressedAt d m gx gy)) o r p
+    (λ i h. outer-is d m gx gy (i % d .width) (i / d .width) (λ c. ⊎-elim (λ l. absurd (off (c .right) (c .left) l)) (λ l. absurd (off (c .down) (c .up) l)) n))
+  where
+    off : {i n : ℕ} → 0 < i → i + 1 < n → n < 3 → ⊥
+    off a c l = omega arith
+
 -- an inner row has a row before it and one after it
-pub has-rows : (d : Size) (m : List Float) (gx gy : List ℤ) (y start n : ℕ) → AnyRow d m gx gy y start n → 0 < y → y + 1 < d .height → 3 ≤ d .width → InnerRow m gx gy start n
-has-rows d m gx gy y start n a k u l =
-    let p = a .pictures in
+pub has-rows : (d : Size) (m : List Float) (gx gy : List ℤ) (y start n : ℕ) → Pictures d m gx gy → start ≡ y * d .width → n ≡ d .width → 0 < y → y + 1 < d .height → 3 ≤ d .width → InnerRow m gx gy start n
+has-rows d m gx gy y start n p b e k u l =
     let w = d .width in
     record {
       least = omega arith;
-      most = omega arith;
+      most = omega (arith, p .width);
       before = omega (arith, row-before y w k);
-      after = omega (arith, row-in (y + 1) w (d .height) u, add-mul y 1 w);
-      long-x = omega arith;
-      long-y = omega arith;
+      after = omega (arith, row-in (y + 1) w (d .height) u, add-mul y 1 w, p .long);
+      long-x = omega (arith, p .long, p .long-x);
+      long-y = omega (arith, p .long, p .long-y);
     }

@@ -2,18 +2,27 @@
 use Prim.Native.Nat.{ℕ, _+_, _-_, _*_, _^_, _<_, _≤_}
 use mathlib.Core.Path.{_≡_}
 use mathlib.Core.List.{List}
-use lib.ListN.{length}
+use lib.ListN.{length, getD}
 use lib.IntN.{ℤ, natAbs}
-use lib.Ieee.{Float}
+use lib.Ieee.{Float, nan, binary32, ofBits}
 use Rattle.rules.specs.Limits.{maxSide}
 use Rattle.rules.specs.Picture.{area}
+use Rattle.rules.specs.Root.{magnitudeOf}
 use Rattle.rules.specs.declared.Size.{Size}
-use Rattle.suppression.specs.Steps.{stepOf}
 
 -- the size of an i16
 pub record SizeOf (g : ℤ) (r : ℕ) : Type 0 where
   pub is : r ≡ natAbs g
   pub most : r ≤ 2 ^ 15
+
+-- the bits of a magnitude: 1, which stands for what has none, is never told of
+pub record BitsOf (s b : ℕ) : Type 0 where
+  pub some : b ≡ 1 → ⊥
+  pub are : ofBits binary32 b ≡ magnitudeOf s
+
+-- the first n entries are f's
+abbrev pub AllBelow : ℕ → (ℕ → Float) → List Float → Type 0
+AllBelow n f l = (i : ℕ) → i < n → getD l i nan ≡ f i
 
 -- a number whose root has 24 binary digits, and a guess that has no more
 pub record Target (t g : ℕ) : Type 0 where
@@ -28,13 +37,6 @@ pub record Pictures (d : Size) (magnitude : List Float) (gx gy : List ℤ) : Typ
   pub long : length magnitude ≡ area d
   pub long-x : length gx ≡ area d
   pub long-y : length gy ≡ area d
-
--- its row y, which begins at `start` and is `width` long
-pub record AnyRow (d : Size) (magnitude : List Float) (gx gy : List ℤ) (y start width : ℕ) : Type 0 where
-  pub pictures : Pictures d magnitude gx gy
-  pub inside : y < d .height
-  pub begins : start ≡ y * d .width
-  pub wide : width ≡ d .width
 
 -- a row with a row before it and one after it, and with inner pixels
 pub record InnerRow (magnitude : List Float) (gx gy : List ℤ) (start width : ℕ) : Type 0 where
@@ -53,8 +55,3 @@ pub record Inside (width : ℕ) (magnitude : List Float) (gx gy : List ℤ) (i :
   pub after : i + width + 1 < length magnitude
   pub long-x : length gx ≡ length magnitude
   pub long-y : length gy ≡ length magnitude
-
--- a step, which leads at most to the next pixel of the row beside
-pub record StepIs (sector width r : ℕ) : Type 0 where
-  pub is : r ≡ stepOf sector width
-  pub most : r ≤ width + 1

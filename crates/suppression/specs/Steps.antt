@@ -2,7 +2,7 @@
 use Prim.Native.Nat.{ℕ, _+_, _-_}
 use mathlib.Core.Bool.{cond, _&&_}
 use mathlib.Core.List.{List}
-use lib.Dec.{ltb}
+use lib.Dec.{ltb, eqb}
 use lib.ListN.{getD}
 use lib.IntN.{ℤ, pos, natAbs, _+ℤ_, _*ℤ_}
 use lib.Ieee.{Float, nan}
@@ -13,6 +13,10 @@ use Rattle.rules.specs.Suppression.{keeps}
 -- how many entries after a pixel the second neighbour of 01's table stands, at width w
 abbrev pub stepOf : ℕ → ℕ → ℕ
 stepOf sector w = natAbs (pos w *ℤ neighbours sector .1 .dy +ℤ neighbours sector .1 .dx)
+
+-- one of four by the step in the three by three about a pixel
+unfoldable pub atStep : ℕ → Float → Float → Float → Float → Float
+atStep step one two three four = cond (eqb step 1) one (cond (eqb step 2) two (cond (eqb step 3) three four))
 
 -- what stands at inner pixel i afterwards
 unfoldable pub keptAt : ℕ → List Float → List ℤ → List ℤ → ℕ → Float

@@ -7,19 +7,21 @@ use rules::REFUSED_SIDE;
 use rules::Size;
 use rules::table::side_over;
 ghost use mathlib.Core.Path.{_≡_};
+ghost use mathlib.Core.Bool.{true, cond};
 ghost use Prim.Native.Nat.{_+_, _*_, _^_, _<_, _≤_};
 ghost use lib.ListN.{length, drop};
+ghost use lib.Ieee.{binary32, ofBits};
 ghost use Rattle.rules.specs.Limits.{maxSide};
 ghost use Rattle.rules.specs.Picture.{area, cleared, filled};
 ghost use Rattle.rules.specs.Sums.{plusZero};
 ghost use Rattle.rules.specs.Gradient.{energy};
-ghost use Rattle.rules.specs.Root.{capS, nearRoot, rootOf, magnitudeOf};
+ghost use Rattle.rules.specs.Root.{capS, Near, nearRoot, rootOf, magnitudeOf};
 ghost use Rattle.rules.specs.Sector.{sectorOf};
 ghost use Rattle.rules.specs.Suppression.{suppressedAt};
 ghost use Rattle.rules.specs.Refusals.{first, magnitudeRows, suppressionRows};
 ghost use Rattle.rules.specs.Calls.{magnitudeAt, painted, gradientMagnitude, nonMaximumSuppression};
-ghost use Rattle.suppression.specs.Lent.{SizeOf, Target, StepIs, Inside, InnerRow, AnyRow, Pictures};
-ghost use Rattle.suppression.specs.Steps.{keptAt, rowAt};
+ghost use Rattle.suppression.specs.Lent.{SizeOf, BitsOf, Target, AllBelow, Inside, InnerRow, Pictures};
+ghost use Rattle.suppression.specs.Steps.{stepOf, atStep, keptAt, rowAt};
 
 // ---- components
 
@@ -40,36 +42,35 @@ fn energy(gx: i16, gy: i16) -> u32
     a * a + b * b
 }
 
-// The sector of a gradient, by squares (01.Gradient.7 to 01.Gradient.11).
+// The sector of a gradient, by squares (01.Gradient.7 to 01.Gradient.11): (a + b)² < 2a² is 2ab + b² < a², which 32 bits hold.
 pub fn sector(gx: i16, gy: i16) -> u8
     ensures { λ r. ⌜ r ≡ sectorOf gx gy ⌝ }
 {
-    let a = size_of(gx) as u64;
-    let b = size_of(gy) as u64;
+    let a = size_of(gx);
+    let b = size_of(gy);
     if a + b == 0 {
         return 0;
     }
-    let s = (a + b) * (a + b);
-    if s < 2 * (a * a) {
+    let twice = 2 * (a * b);
+    if twice + b * b < a * a {
         return 0;
     }
-    if s < 2 * (b * b) {
+    if twice + a * a < b * b {
         return 90;
     }
     if (gx < 0) == (gy < 0) { 45 } else { 135 }
 }
 
-// ---- the root: guessed in floats, mended in whole numbers. Nothing is proved, or needed, of the guess.
+// ---- the root: guessed in floats, then tested or mended in whole numbers. Nothing is proved, or needed, of the guess.
 
 // From this S on the magnitude is 255.
 const CAP: u32 = 65025;
 
-// 4^(i + 16).
-fn four_of(i: u32) -> u64
-    requires { ⌜ i < 8 ⌝ }
-    ensures { λ r. ⌜ r ≡ 4 ^ (i + 16) ⌝ }
+// One of two by a test, with no branch: loops made of it run over many pixels at once.
+fn pick(test: bool, yes: f32, no: f32) -> f32
+    ensures { λ r. ⌜ r ≡ cond test yes no ⌝ }
 {
-    1u64 << (2 * i + 32)
+    if test { yes } else { no }
 }
 
 // A float within 5 in 100 of the root of f, from its bits.
@@ -80,10 +81,10 @@ fn first_guess(f: f32) -> f32 {
     1.0
 }
 
-// Tried on every s below the cap, this is the nearest f32 itself, so that mending finds nothing to do; no proof leans on it. Two of
+// Tried on every s, this is the magnitude itself, so that the tests pass and mending finds nothing to do; no proof leans on it. Two of
 // Heron's steps, and a third from the rest of the square, worked out in two halves of the digits since one f32 cannot hold it.
 fn guess(s: u32) -> f32 {
-    let c = if s < CAP { s as u16 } else { 0 };
+    let c = if s < CAP { s as u16 } else { 65025 };
     let f = c as f32;
     let a = first_guess(f);
     let b = (a + f / a) * 0.5;
@@ -92,7 +93,54 @@ fn guess(s: u32) -> f32 {
     let high = wide - (wide - y);
     let low = y - high;
     let rest = f - high * high - 2.0 * high * low - low * low;
-    y + rest / (y + y)
+    pick(s == 0, 0.0, y + rest / (y + y))
+}
+
+// ---- a guess tested, with no branch
+
+// The bits of a float from +0 or -0 on. 1 for any other float: no magnitude has these bits.
+fn bits_of(y: f32) -> u32
+    ensures { λ r. ⌜ ((r ≡ 1 → ⊥) → ofBits binary32 r ≡ y) ⌝ }
+{
+    if 0.0 <= y { f32::to_bits(y) } else { 1 }
+}
+
+// Whether m is the whole number nearest the root of t * 2^32: whether m² + m reaches it, by less than 2m.
+fn is_near(t: u32, m: u32) -> bool
+    requires { ⌜ m < 2 ^ 24 ⌝ }
+    ensures { λ r. ⌜ (r ≡ true → Near (t * 2 ^ 32) m) ⌝ }
+{
+    let v = (m as u64) * ((m + 1) as u64);
+    let high = (v / 4294967296) as u32;
+    let low = (v % 4294967296) as u32;
+    (high == t) & (low < 2 * m)
+}
+
+// Whether b are the bits of the root of an s below the cap. 0x3f80_0000 are those of 1 and 0x4380_0000 those of 256; between them the
+// exponent tells by which power of 4 the s must be multiplied for its root to have 24 binary digits.
+fn are_root_bits(s: u32, b: u32) -> bool
+    ensures { λ r. ⌜ (r ≡ true → BitsOf s b) ⌝ }
+{
+    let t = s << (2 * (7 - (b / 8388608 + 1) % 8));
+    let near = is_near(t, b % 8388608 + 8388608);
+    (s < CAP) & (0x3f80_0000 <= b) & (b < 0x4380_0000) & near
+}
+
+// Whether b are the bits of the magnitude of s. 0x437f_0000 are those of 255.
+fn are_bits(s: u32, b: u32) -> bool
+    ensures { λ r. ⌜ (r ≡ true → BitsOf s b) ⌝ }
+{
+    ((s == 0) & (b == 0)) | ((CAP <= s) & (b == 0x437f_0000)) | are_root_bits(s, b)
+}
+
+// ---- a guess mended
+
+// 4^(i + 16).
+fn four_of(i: u32) -> u64
+    requires { ⌜ i < 8 ⌝ }
+    ensures { λ r. ⌜ r ≡ 4 ^ (i + 16) ⌝ }
+{
+    1u64 << (2 * i + 32)
 }
 
 // The 24 binary digits of a guess; 2^23 is 8,388,608.
@@ -131,24 +179,17 @@ fn root_from(s: u32, y: f32) -> f32
     f32::from_bits((150 - k) * 8388608 + ((m - 8388608) as u32))
 }
 
-// The magnitude of s, from any guess.
-fn magnitude_from(s: u32, y: f32) -> f32
+// The magnitude of S: 0, the nearest root, or 255 (01.Gradient.4).
+pub fn magnitude_of(s: u32) -> f32
     ensures { λ r. ⌜ r ≡ magnitudeOf s ⌝ }
 {
     if s == 0 {
         return 0.0;
     }
     if s < CAP {
-        return root_from(s, y);
+        return root_from(s, guess(s));
     }
     255.0
-}
-
-// The magnitude of S: 0, the nearest root, or 255 (01.Gradient.4).
-pub fn magnitude_of(s: u32) -> f32
-    ensures { λ r. ⌜ r ≡ magnitudeOf s ⌝ }
-{
-    magnitude_from(s, guess(s))
 }
 
 // ---- the calls
@@ -207,16 +248,42 @@ fn guesses(gx: &[i16], gy: &[i16], n: usize, magnitude: &mut [f32])
     }
 }
 
-// The magnitudes of n entries, from any guesses.
-fn magnitudes(gx: &[i16], gy: &[i16], n: usize, magnitude: &mut [f32])
+// Whether each of n entries is the magnitude, as every guess should be. It looks at all of them, so that it looks at many at once.
+fn are_magnitudes(gx: &[i16], gy: &[i16], n: usize, magnitude: &[f32]) -> bool
+    requires { ⌜ (length (now gx) ≡ n) × (length (now gy) ≡ n) × (n ≤ length (now magnitude)) ⌝ }
+    ensures { λ r. ⌜ (r ≡ true → AllBelow n (magnitudeAt (now (gx .entry)) (now (gy .entry))) (now (magnitude .entry))) ⌝ }
+{
+    let mut all = true;
+    let mut i = 0;
+    while i < n {
+        all = all & are_bits(energy(gx[i], gy[i]), bits_of(magnitude[i]));
+        i += 1;
+    }
+    all
+}
+
+// The magnitudes of n entries, each mended by itself.
+fn one_by_one(gx: &[i16], gy: &[i16], n: usize, magnitude: &mut [f32])
     requires { ⌜ (length (now gx) ≡ n) × (length (now gy) ≡ n) × (n ≤ length (now magnitude)) ⌝ }
     ensures { λ _. ⌜ now (magnitude .exit) ≡ filled n (magnitudeAt (now (gx .entry)) (now (gy .entry))) (now (magnitude .entry)) ⌝ }
 {
     let mut i = 0;
     while i < n {
-        magnitude[i] = magnitude_from(energy(gx[i], gy[i]), magnitude[i]);
+        magnitude[i] = magnitude_of(energy(gx[i], gy[i]));
         i += 1;
     }
+}
+
+// The magnitudes of n entries: the guesses, if all are right.
+fn magnitudes(gx: &[i16], gy: &[i16], n: usize, magnitude: &mut [f32])
+    requires { ⌜ (length (now gx) ≡ n) × (length (now gy) ≡ n) × (n ≤ length (now magnitude)) ⌝ }
+    ensures { λ _. ⌜ now (magnitude .exit) ≡ filled n (magnitudeAt (now (gx .entry)) (now (gy .entry))) (now (magnitude .entry)) ⌝ }
+{
+    guesses(gx, gy, n, magnitude);
+    if are_magnitudes(gx, gy, n, magnitude) {
+        return;
+    }
+    one_by_one(gx, gy, n, magnitude);
 }
 
 // The magnitude at every pixel.
@@ -230,24 +297,32 @@ pub fn gradient_magnitude(gx: &[i16], gy: &[i16], size: Size, magnitude: &mut [f
     if refusal != ACCEPTED {
         return refusal;
     }
-    let n = size.width * size.height;
-    guesses(gx, gy, n, magnitude);
-    magnitudes(gx, gy, n, magnitude);
+    magnitudes(gx, gy, size.width * size.height, magnitude);
     ACCEPTED
 }
 
-// How many entries away from a pixel the two neighbours of its sector stand: one before it, the other after it (01.Gradient.13 to
-// 01.Gradient.17).
-fn neighbour_step(sector: u8, width: usize) -> usize
-    requires { ⌜ (0 < width) × (width ≤ maxSide) ⌝ }
-    ensures { λ r. ⌜ StepIs sector width r ⌝ }
+// How many entries after a pixel the second neighbour of its sector stands, in the three by three about it; the first stands as many
+// before (01.Gradient.13 to 01.Gradient.17).
+fn neighbour_step(sector: u8) -> u8
+    ensures { λ r. ⌜ r ≡ stepOf sector 3 ⌝ }
 {
     match sector {
         0 => 1,
-        45 => width - 1,
-        90 => width,
-        _ => width + 1,
+        45 => 2,
+        90 => 3,
+        _ => 4,
     }
+}
+
+// One of the four that stand so many entries away. All four are read, so that a row goes many pixels at once.
+fn at_step(step: u8, one: f32, two: f32, three: f32, four: f32) -> f32
+    ensures { λ r. ⌜ r ≡ atStep step one two three four ⌝ }
+{
+    pick(
+        step == 1,
+        one,
+        pick(step == 2, two, pick(step == 3, three, four)),
+    )
 }
 
 // What stands at inner pixel i afterwards: its magnitude, if it is at least both neighbours'.
@@ -255,14 +330,25 @@ fn suppressed(magnitude: &[f32], gx: &[i16], gy: &[i16], width: usize, i: usize)
     requires { ⌜ Inside width (now magnitude) (now gx) (now gy) i ⌝ }
     ensures { λ r. ⌜ r ≡ keptAt width (now (magnitude .entry)) (now (gx .entry)) (now (gy .entry)) i ⌝ }
 {
-    let step = neighbour_step(sector(gx[i], gy[i]), width);
-    let before = i - step;
-    let after = i + step;
+    let step = neighbour_step(sector(gx[i], gy[i]));
+    let above = i - width;
+    let below = i + width;
+    let before = at_step(
+        step,
+        magnitude[i - 1],
+        magnitude[above + 1],
+        magnitude[above],
+        magnitude[above - 1],
+    );
+    let after = at_step(
+        step,
+        magnitude[i + 1],
+        magnitude[below - 1],
+        magnitude[below],
+        magnitude[below + 1],
+    );
     let m = magnitude[i];
-    if (magnitude[before] <= m) & (magnitude[after] <= m) {
-        return m;
-    }
-    0.0
+    pick((before <= m) & (after <= m), m, 0.0)
 }
 
 // All of it +0.
@@ -294,48 +380,36 @@ fn suppress_row(magnitude: &[f32], gx: &[i16], gy: &[i16], start: usize, out: &m
     out[x] = 0.0;
 }
 
-// Row y: outer rows are +0, and so is every row of a narrow picture.
-fn suppress_any(
-    magnitude: &[f32],
-    gx: &[i16],
-    gy: &[i16],
-    size: Size,
-    y: usize,
-    start: usize,
-    out: &mut [f32],
-)
-    requires { ⌜ AnyRow size (now magnitude) (now gx) (now gy) y start (length (now out)) ⌝ }
-    ensures { λ _. ⌜ now (out .exit) ≡ filled (size .width) (λ x. suppressedAt size (now (magnitude .entry)) (now (gx .entry)) (now (gy .entry)) x y) (now (out .entry)) ⌝ }
+// A picture with inner pixels: its outer rows are +0, and each row between has a row above it and one below.
+fn suppress_rows(magnitude: &[f32], gx: &[i16], gy: &[i16], size: Size, out: &mut [f32])
+    requires { ⌜ Pictures size (now magnitude) (now gx) (now gy) × (area size ≤ length (now out)) × (3 ≤ size .width) × (3 ≤ size .height) ⌝ }
+    ensures { λ _. ⌜ now (out .exit) ≡ painted size (suppressedAt size (now (magnitude .entry)) (now (gx .entry)) (now (gy .entry))) (now (out .entry)) ⌝ }
 {
-    if y == 0 {
-        clear(out);
-        return;
+    let width = size.width;
+    clear(&mut out[0..width]);
+    let mut y = 1;
+    let mut start = width;
+    while y + 1 < size.height {
+        let end = start + width;
+        suppress_row(magnitude, gx, gy, start, &mut out[start..end]);
+        start = end;
+        y += 1;
     }
-    if y + 1 == size.height {
-        clear(out);
-        return;
-    }
-    if size.width < 3 {
-        clear(out);
-        return;
-    }
-    suppress_row(magnitude, gx, gy, start, out);
+    let end = start + width;
+    clear(&mut out[start..end]);
 }
 
-// The whole picture, row by row.
+// The whole picture: where a side is under 3 no pixel is an inner one.
 fn suppress(magnitude: &[f32], gx: &[i16], gy: &[i16], size: Size, out: &mut [f32])
     requires { ⌜ Pictures size (now magnitude) (now gx) (now gy) × (area size ≤ length (now out)) ⌝ }
     ensures { λ _. ⌜ now (out .exit) ≡ painted size (suppressedAt size (now (magnitude .entry)) (now (gx .entry)) (now (gy .entry))) (now (out .entry)) ⌝ }
 {
-    let width = size.width;
-    let mut y = 0;
-    let mut start = 0;
-    while y < size.height {
-        let end = start + width;
-        suppress_any(magnitude, gx, gy, size, y, start, &mut out[start..end]);
-        start = end;
-        y += 1;
+    let n = size.width * size.height;
+    if (size.width < 3) | (size.height < 3) {
+        clear(&mut out[0..n]);
+        return;
     }
+    suppress_rows(magnitude, gx, gy, size, out);
 }
 
 // Keeps what is not below its two neighbours; all else is +0 (01.Gradient.18, 01.Gradient.19).

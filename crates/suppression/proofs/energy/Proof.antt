@@ -3,7 +3,7 @@ use native.Mathlib.Omega.{arith}
 use mir.Syntax.{w16}
 use mir.ValLaws.{toZ-ofZ}
 use borrow.Author.Needs.{needs}
-use Rattle.suppression.proofs.Components.{square-small, energy-is}
+use Rattle.suppression.proofs.Components.{product-small, energy-is}
 use Rattle.suppression.proofs.energy.Statement.{statement}
 use Rattle.suppression.proofs.energy.Tie as tie
 
@@ -14,13 +14,13 @@ size-of-requires-2 : tie.Need-size-of-requires-2
 size-of-requires-2 c κs = search needs
 
 mul-result : tie.Need-mul-result
-mul-result c = omega (arith, square-small _ (c .before .size-of .ensures .most))
+mul-result c = let h = c .before .size-of .ensures .most in omega (arith, product-small _ _ h h)
 
 mul-result-2 : tie.Need-mul-result-2
-mul-result-2 c = omega (arith, square-small _ (c .size-of2 .ensures .most))
+mul-result-2 c = let h = c .size-of2 .ensures .most in omega (arith, product-small _ _ h h)
 
 add-result : tie.Need-add-result
-add-result c = omega (arith, square-small _ (c .before .size-of .ensures .most), square-small _ (c .size-of2 .ensures .most))
+add-result c = let h = c .before .size-of .ensures .most in let k = c .size-of2 .ensures .most in omega (arith, product-small _ _ h h, product-small _ _ k k)
 
 returns : tie.Need-returns
 returns c =

@@ -1,4 +1,4 @@
--- `gradient_magnitude` meets its contract: refused, or the two loops. Assumes nothing.
+-- `gradient_magnitude` meets its contract: refused, or every magnitude. Assumes nothing.
 use native.Mathlib.Omega.{arith}
 use mathlib.Core.Path.{sym, _∙_}
 use denote.Ref.{now}
@@ -22,14 +22,11 @@ returns : tie.Need-returns
 unfolding gradientMagnitude
 returns c = refused-is _ _ (c .before .of-magnitude .ensures) _ (now (c .before .before .before .before .args .magnitude)) (c .if1 .taken)
 
-mul-n : tie.Need-mul-n
-mul-n c = omega (arith, fit (c .before) .sides .small)
-
-guesses-requires : tie.Need-guesses-requires
-guesses-requires c κs = let p = fit (c .before .before) in search needs
+mul-magnitudes : tie.Need-mul-magnitudes
+mul-magnitudes c = omega (arith, fit (c .before) .sides .small)
 
 magnitudes-requires : tie.Need-magnitudes-requires
-magnitudes-requires c κs = let p = fit (c .before .before .before .before .before .before) in search needs
+magnitudes-requires c κs = let p = fit (c .before .before) in search needs
 
 same-length-2 : tie.Need-same-length-2
 same-length-2 c = search needs
@@ -37,8 +34,8 @@ same-length-2 c = search needs
 returns-2 : tie.Need-returns-2
 unfolding gradientMagnitude
 returns-2 c =
-    accepted-is _ _ (c .before .before .before .before .before .before .before .before .before .before .of-magnitude .ensures) _ (now (c .before .before .before .before .before .before .before .before .before .before .before .before .before .args .magnitude)) _ (c .before .before .before .before .before .before .before .before .before .if1 .left)
-    (rw (c .before .before .before .before .before .before .guesses .ensures) at (c .before .before .magnitudes .ensures))
+    let e = c .before .before .before .before .before in
+    accepted-is _ _ (e .before .of-magnitude .ensures) _ (now (e .before .before .before .before .args .magnitude)) _ (e .if1 .left) (c .before .before .magnitudes .ensures)
 
 pub gradient-magnitude-spec : {M : Type 1} → statement M
 gradient-magnitude-spec =
@@ -47,8 +44,7 @@ gradient-magnitude-spec =
     of-magnitude-requires
     same-length
     returns
-    mul-n
-    guesses-requires
+    mul-magnitudes
     magnitudes-requires
     same-length-2
     returns-2)

@@ -7,7 +7,7 @@ use lib.IntN.{natAbs}
 use mir.Syntax.{w16}
 use mir.ValLaws.{toZ-ofZ}
 use borrow.Author.Needs.{needs}
-use Rattle.suppression.proofs.Components.{square-small, sum-small, signs, both-zero, along-x, along-y, diagonal}
+use Rattle.suppression.proofs.Components.{product-small, signs, both-zero, along-x, along-y, diagonal}
 use Rattle.suppression.proofs.sector.Statement.{statement}
 use Rattle.suppression.proofs.sector.Tie as tie
 
@@ -19,21 +19,18 @@ module _ (c : tie.After-size-of2) where
   b-is : c .size-of2 .result ≡ natAbs (c .before .before .args .gy)
   b-is = let s = c .before .before in rw (toZ-ofZ w16 (s .args .gy) (s .fits .gy)) at (c .size-of2 .ensures .is)
 
-  -- and their squares
-  squares : (c .before .size-of .result * c .before .size-of .result ≤ 2 ^ 30) × (c .size-of2 .result * c .size-of2 .result ≤ 2 ^ 30)
-  squares = (square-small _ (c .before .size-of .ensures .most), square-small _ (c .size-of2 .ensures .most))
+  -- and what their products come to
+  products : (c .before .size-of .result * c .before .size-of .result ≤ 2 ^ 30) × (c .size-of2 .result * c .size-of2 .result ≤ 2 ^ 30) × (c .before .size-of .result * c .size-of2 .result ≤ 2 ^ 30)
+  products =
+      let h = c .before .size-of .ensures .most in
+      let k = c .size-of2 .ensures .most in
+      (product-small _ _ h h, product-small _ _ k k, product-small _ _ h k)
 
 size-of-requires : tie.Need-size-of-requires
 size-of-requires c κs = search needs
 
-cast-a : tie.Need-cast-a
-cast-a c = search needs
-
 size-of-requires-2 : tie.Need-size-of-requires-2
 size-of-requires-2 c κs = search needs
-
-cast-b : tie.Need-cast-b
-cast-b c = search needs
 
 add-if1 : tie.Need-add-if1
 add-if1 c = search needs
@@ -41,29 +38,32 @@ add-if1 c = search needs
 returns : tie.Need-returns
 returns c = both-zero _ _ _ _ (a-is (c .before)) (b-is (c .before)) (c .if1 .taken)
 
-add-s : tie.Need-add-s
-add-s c = search needs
+mul-twice : tie.Need-mul-twice
+mul-twice c = omega (arith, products (c .before))
 
-add-s-2 : tie.Need-add-s-2
-add-s-2 c = search needs
-
-mul-s : tie.Need-mul-s
-mul-s c = omega (arith, sum-small _ _ (c .before .before .size-of .ensures .most) (c .before .size-of2 .ensures .most))
+mul-twice-2 : tie.Need-mul-twice-2
+mul-twice-2 c = omega (arith, products (c .before))
 
 mul-if2 : tie.Need-mul-if2
-mul-if2 c = omega (arith, squares (c .before))
+mul-if2 c = omega (arith, products (c .before))
+
+add-if2 : tie.Need-add-if2
+add-if2 c = omega (arith, products (c .before))
 
 mul-if2-2 : tie.Need-mul-if2-2
-mul-if2-2 c = omega (arith, squares (c .before))
+mul-if2-2 c = omega (arith, products (c .before))
 
 returns-2 : tie.Need-returns-2
 returns-2 c = along-x _ _ _ _ (a-is (c .before .before)) (b-is (c .before .before)) (c .before .if1 .left) (c .if2 .taken)
 
 mul-if3 : tie.Need-mul-if3
-mul-if3 c = omega (arith, squares (c .before .before))
+mul-if3 c = omega (arith, products (c .before .before))
+
+add-if3 : tie.Need-add-if3
+add-if3 c = omega (arith, products (c .before .before))
 
 mul-if3-2 : tie.Need-mul-if3-2
-mul-if3-2 c = omega (arith, squares (c .before .before))
+mul-if3-2 c = omega (arith, products (c .before .before))
 
 returns-3 : tie.Need-returns-3
 returns-3 c =
@@ -89,18 +89,17 @@ sector-spec =
     tie.close
     (tie.spec
     size-of-requires
-    cast-a
     size-of-requires-2
-    cast-b
     add-if1
     returns
-    add-s
-    add-s-2
-    mul-s
+    mul-twice
+    mul-twice-2
     mul-if2
+    add-if2
     mul-if2-2
     returns-2
     mul-if3
+    add-if3
     mul-if3-2
     returns-3
     returns-4

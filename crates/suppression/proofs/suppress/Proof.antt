@@ -1,113 +1,73 @@
--- `suppress` meets its contract: a picture filled row by row. Assumes nothing.
-use borrow.Author.Needs.{needs}
+-- `suppress` meets its contract: a narrow picture has no inner pixel. Assumes nothing.
+use borrow.Author.Needs.{needs, zero≤}
+use borrow.Author.Tests.{ltb-true, ltb-false}
 use native.Mathlib.Omega.{arith}
-use native.Mathlib.Nat.{add-mul, zero-mul, mul-comm}
-use Prim.Native.Nat.{ℕ, _+_, _-_, _*_, _≤_}
-use mathlib.Core.Path.{_≡_, refl, sym, ap}
+use native.Mathlib.Nat.{zero-add}
+use Prim.Native.Nat.{_-_}
+use mathlib.Core.Path.{_≡_, refl, sym, _∙_}
+use mathlib.Core.Logic.{⊎-elim, inl, inr}
 use denote.Ref.{now}
-use lib.Ieee.{Float}
-use Rattle.rules.specs.Picture.{area, byPixel}
-use Rattle.rules.specs.Suppression.{suppressedAt}
-use Rattle.rules.proofs.Fill.{Filling, filling-start, filling-part, filling-end}
-use Rattle.rules.proofs.Grid.{row-in, part-length, row-of, column-of}
+use Rattle.rules.specs.Picture.{area}
+use Rattle.rules.specs.Sums.{plusZero}
+use Rattle.rules.proofs.Bools.{either, neither}
+use Rattle.rules.proofs.Fill.{fill-start, fill-to}
+use Rattle.rules.proofs.Grid.{part-length}
+use Rattle.suppression.proofs.Neighbours.{narrow-is}
 use Rattle.suppression.proofs.suppress.Statement.{statement}
 use Rattle.suppression.proofs.suppress.Tie as tie
 
-abbrev Inv-loop : tie.InvT-loop
-Inv-loop magnitude gx gy size out₀ width y₀ start₀ out y start =
-    (y ≤ size .height)
-    × (start ≡ y * size .width)
-    × Filling (area size) start (byPixel size (suppressedAt size magnitude gx gy)) out₀ out
+mul-n : tie.Need-mul-n
+mul-n c = search needs
 
-abbrev μ-loop : tie.MeasureT-loop
-μ-loop magnitude gx gy size out₀ width y₀ start₀ out y start = size .height - y
+sub-clear : tie.Need-sub-clear
+sub-clear c = search needs
 
--- what the picture becomes
-abbrev pixels : tie.Start Inv-loop μ-loop → ℕ → Float
-pixels s = let a = s .args in byPixel (a .size) (suppressedAt (a .size) (now (a .magnitude)) (now (a .gx)) (now (a .gy)))
+part-clear-start : tie.Need-part-clear-start
+part-clear-start c = search needs
 
-loop-holds : tie.Need-loop-holds Inv-loop μ-loop
-loop-holds c = let s = c .before .before in (search needs, sym (zero-mul _), filling-start (area (s .args .size)) (pixels s) (now (s .args .out)))
+part-clear-end : tie.Need-part-clear-end
+part-clear-end c = search needs
 
--- a row ends within the picture
-ends : (c : tie.Then1 Inv-loop μ-loop) → let d = c .before .before .before .before .before .args .size in c .before .before .loop .start + d .width ≤ area d
-ends c =
-    let d = c .before .before .before .before .before .args .size in
-    omega (arith, row-in (c .before .before .loop .y) (d .width) (d .height) (c .if1 .taken), c .before .before .loop .inv)
+clear-requires : tie.Need-clear-requires
+clear-requires c κs = search needs
 
-add-end : tie.Need-add-end Inv-loop μ-loop
-add-end c = omega (arith, ends c, c .before .before .before .before .before .pre)
-
-mul-suppress-any : tie.Need-mul-suppress-any Inv-loop μ-loop
-mul-suppress-any c = omega (arith, ends c, c .before .before .before .before .before .pre)
-
-sub-suppress-any : tie.Need-sub-suppress-any Inv-loop μ-loop
-sub-suppress-any c = search needs
-
-part-suppress-any-start : tie.Need-part-suppress-any-start Inv-loop μ-loop
-part-suppress-any-start c = search needs
-
-part-suppress-any-end : tie.Need-part-suppress-any-end Inv-loop μ-loop
-part-suppress-any-end c = let h = ends c in search needs
-
-suppress-any-requires : tie.Need-suppress-any-requires Inv-loop μ-loop
-suppress-any-requires c κs =
-    let s = c .before .before .before .before .before .before in
-    let l = c .before .before .before .loop in
-    let h = ends (c .before) in
-    record {
-      pictures = s .pre .0;
-      inside = c .before .if1 .taken;
-      begins = l .inv .1;
-      wide = part-length (l .out) (l .start) (l .start + s .args .size .width) (s .args .size .width) refl (omega (arith, s .pre));
-    }
-
-add-y : tie.Need-add-y Inv-loop μ-loop
-add-y c = search needs
-
-loop-less : tie.Need-loop-less Inv-loop μ-loop
-loop-less c = search needs
-
-loop-again : tie.Need-loop-again Inv-loop μ-loop
-loop-again c =
-    let d = c .before .before .before .before in
-    let s = d .before .before .before .before .before in
-    let l = d .before .before .loop in
-    let a = s .args in
-    let w = a .size .width in (
-      search needs,
-      omega (arith, l .inv .1, add-mul (l .y) 1 w),
-      filling-part (area (a .size)) (l .start) w (pixels s) (λ x. suppressedAt (a .size) (now (a .magnitude)) (now (a .gx)) (now (a .gy)) x (l .y)) (now (a .out)) (l .out) _
-          (s .pre .1) (ends d) (l .inv .2) (c .before .before .suppress-any .ensures) (λ x p. rw (l .inv .1, column-of (l .y) p, row-of (l .y) p)),
-    )
-
-same-length : tie.Need-same-length Inv-loop μ-loop
+same-length : tie.Need-same-length
 same-length c = search needs
 
-returns : tie.Need-returns Inv-loop μ-loop
+returns : tie.Need-returns
 returns c =
-    let s = c .before .before .before .before .before in
-    let d = s .args .size in
-    let l = c .before .before .loop in
-    let e : l .y ≡ d .height = omega arith in
-    filling-end (area d) (l .start) (pixels s) (now (s .args .out)) (l .out) (l .inv .2)
-    (omega (arith, l .inv .1, ap (λ (n : ℕ). n * d .width) e, mul-comm (d .height) (d .width)))
+    let s = c .before .before .before .before .before .before .before .before .before .before in
+    let o = now (s .args .out) in
+    let n = area (s .args .size) in
+    let z : n ≡ n - 0 = omega arith in
+    let w = part-length o 0 n n (sym (zero-add n)) (s .pre .1) ∙ z in
+    narrow-is (s .args .size) _ _ _ o _
+    (⊎-elim (λ t. inl (ltb-true _ _ t)) (λ t. inr (ltb-true _ _ t)) (either _ _ (c .before .before .before .before .if1 .taken)))
+    (fill-to 0 n (λ i. plusZero) (λ i. plusZero) o o _ zero≤ (s .pre .1) (fill-start _ o) (rw w at (c .before .before .clear .ensures)) (λ i h. refl))
+
+suppress-rows-requires : tie.Need-suppress-rows-requires
+suppress-rows-requires c κs =
+    let s = c .before .before .before .before .before .before .before in
+    let t = neither _ _ (c .before .if1 .left) in
+    (s .pre .0, s .pre .1, ltb-false _ _ (t .0), ltb-false _ _ (t .1))
+
+same-length-2 : tie.Need-same-length-2
+same-length-2 c = search needs
+
+returns-2 : tie.Need-returns-2
+returns-2 c = search needs
 
 pub suppress-spec : {M : Type 1} → statement M
 suppress-spec =
     tie.close
     (tie.spec
-    Inv-loop
-    μ-loop
-    loop-holds
-    add-end
-    mul-suppress-any
-    sub-suppress-any
-    part-suppress-any-start
-    part-suppress-any-end
-    suppress-any-requires
-    add-y
-    loop-less
-    loop-again
+    mul-n
+    sub-clear
+    part-clear-start
+    part-clear-end
+    clear-requires
     same-length
-    returns)
+    returns
+    suppress-rows-requires
+    same-length-2
+    returns-2)

@@ -1,8 +1,7 @@
--- `suppressed` meets its contract, by the sector's step and one test. Assumes nothing.
+-- `suppressed` meets its contract: all the neighbours are read, and the sector's step chooses two of them. Assumes nothing.
 use borrow.Author.Needs.{needs, sfits-of}
 use native.Mathlib.Omega.{arith}
-use mathlib.Core.Path.{_≡_}
-use mathlib.Core.Bool.{true, false}
+use mathlib.Core.Path.{_≡_, _∙_}
 use denote.Ref.{now}
 use lib.IntN.{pos}
 use lib.ListN.{getD}
@@ -10,7 +9,6 @@ use mir.Syntax.{w16}
 use mir.ValLaws.{toZ-ofZ}
 use Rattle.rules.specs.Sector.{sectorOf}
 use Rattle.suppression.proofs.Neighbours.{kept-is}
-use borrow.Author.Needs.{needs}
 use Rattle.suppression.proofs.suppressed.Statement.{statement}
 use Rattle.suppression.proofs.suppressed.Tie as tie
 
@@ -41,11 +39,83 @@ sector-requires c κs = search needs
 neighbour-step-requires : tie.Need-neighbour-step-requires
 neighbour-step-requires c κs = search needs
 
-sub-before : tie.Need-sub-before
-sub-before c = omega (arith, c .neighbour-step .ensures .most)
+sub-above : tie.Need-sub-above
+sub-above c = search needs
 
-add-after : tie.Need-add-after
-add-after c = omega (arith, c .neighbour-step .ensures .most)
+add-below : tie.Need-add-below
+add-below c = search needs
+
+sub-at-step : tie.Need-sub-at-step
+sub-at-step c = search needs
+
+mul-at-step : tie.Need-mul-at-step
+mul-at-step c = search needs
+
+shared-slice-read-at-step : tie.Need-shared-slice-read-at-step
+shared-slice-read-at-step c = search needs
+
+add-at-step : tie.Need-add-at-step
+add-at-step c = search needs
+
+mul-at-step-2 : tie.Need-mul-at-step-2
+mul-at-step-2 c = search needs
+
+shared-slice-read-at-step-2 : tie.Need-shared-slice-read-at-step-2
+shared-slice-read-at-step-2 c = search needs
+
+mul-at-step-3 : tie.Need-mul-at-step-3
+mul-at-step-3 c = search needs
+
+shared-slice-read-at-step-3 : tie.Need-shared-slice-read-at-step-3
+shared-slice-read-at-step-3 c = search needs
+
+sub-at-step-2 : tie.Need-sub-at-step-2
+sub-at-step-2 c = search needs
+
+mul-at-step-4 : tie.Need-mul-at-step-4
+mul-at-step-4 c = search needs
+
+shared-slice-read-at-step-4 : tie.Need-shared-slice-read-at-step-4
+shared-slice-read-at-step-4 c = search needs
+
+at-step-requires : tie.Need-at-step-requires
+at-step-requires c κs = search needs
+
+add-at-step-2 : tie.Need-add-at-step-2
+add-at-step-2 c = search needs
+
+mul-at-step-5 : tie.Need-mul-at-step-5
+mul-at-step-5 c = search needs
+
+shared-slice-read-at-step-5 : tie.Need-shared-slice-read-at-step-5
+shared-slice-read-at-step-5 c = search needs
+
+sub-at-step-3 : tie.Need-sub-at-step-3
+sub-at-step-3 c = search needs
+
+mul-at-step-6 : tie.Need-mul-at-step-6
+mul-at-step-6 c = search needs
+
+shared-slice-read-at-step-6 : tie.Need-shared-slice-read-at-step-6
+shared-slice-read-at-step-6 c = search needs
+
+mul-at-step-7 : tie.Need-mul-at-step-7
+mul-at-step-7 c = search needs
+
+shared-slice-read-at-step-7 : tie.Need-shared-slice-read-at-step-7
+shared-slice-read-at-step-7 c = search needs
+
+add-at-step-3 : tie.Need-add-at-step-3
+add-at-step-3 c = search needs
+
+mul-at-step-8 : tie.Need-mul-at-step-8
+mul-at-step-8 c = search needs
+
+shared-slice-read-at-step-8 : tie.Need-shared-slice-read-at-step-8
+shared-slice-read-at-step-8 c = search needs
+
+at-step-requires-2 : tie.Need-at-step-requires-2
+at-step-requires-2 c κs = search needs
 
 mul-m : tie.Need-mul-m
 mul-m c = search needs
@@ -53,29 +123,16 @@ mul-m c = search needs
 shared-slice-read-m : tie.Need-shared-slice-read-m
 shared-slice-read-m c = search needs
 
-mul-if1 : tie.Need-mul-if1
-mul-if1 c = search needs
-
-shared-slice-read-if1 : tie.Need-shared-slice-read-if1
-shared-slice-read-if1 c = search needs
-
-mul-if1-2 : tie.Need-mul-if1-2
-mul-if1-2 c = omega (arith, c .before .before .neighbour-step .ensures .most)
-
-shared-slice-read-if1-2 : tie.Need-shared-slice-read-if1-2
-shared-slice-read-if1-2 c = omega (arith, c .before .before .before .neighbour-step .ensures .most)
+pick-requires : tie.Need-pick-requires
+pick-requires c κs = search needs
 
 returns : tie.Need-returns
 returns c =
-    let n = c .before .before .before .before in
+    let b = c .before .before in
+    let n = b .before .before .before .before .before .before .before .before .before .before in
     let a = n .before .before .before .before .before .args in
-    kept-is (a .width) (now (a .magnitude)) (now (a .gx)) (now (a .gy)) (a .i) _ _ (sector-is (n .before)) (n .neighbour-step .ensures .is) true (c .if1 .taken)
-
-returns-2 : tie.Need-returns-2
-returns-2 c =
-    let n = c .before .before .before .before in
-    let a = n .before .before .before .before .before .args in
-    kept-is (a .width) (now (a .magnitude)) (now (a .gx)) (now (a .gy)) (a .i) _ _ (sector-is (n .before)) (n .neighbour-step .ensures .is) false (c .if1 .left)
+    kept-is (a .width) (now (a .magnitude)) (now (a .gx)) (now (a .gy)) (a .i) _ _ _ _ _ (omega arith) (omega arith) (sector-is (n .before)) (n .neighbour-step .ensures)
+    (b .before .before .before .before .before .at-step .ensures) (b .at-step2 .ensures) (c .pick .ensures)
 
 pub suppressed-spec : {M : Type 1} → statement M
 suppressed-spec =
@@ -87,13 +144,33 @@ suppressed-spec =
     shared-slice-copy-out-sector-2
     sector-requires
     neighbour-step-requires
-    sub-before
-    add-after
+    sub-above
+    add-below
+    sub-at-step
+    mul-at-step
+    shared-slice-read-at-step
+    add-at-step
+    mul-at-step-2
+    shared-slice-read-at-step-2
+    mul-at-step-3
+    shared-slice-read-at-step-3
+    sub-at-step-2
+    mul-at-step-4
+    shared-slice-read-at-step-4
+    at-step-requires
+    add-at-step-2
+    mul-at-step-5
+    shared-slice-read-at-step-5
+    sub-at-step-3
+    mul-at-step-6
+    shared-slice-read-at-step-6
+    mul-at-step-7
+    shared-slice-read-at-step-7
+    add-at-step-3
+    mul-at-step-8
+    shared-slice-read-at-step-8
+    at-step-requires-2
     mul-m
     shared-slice-read-m
-    mul-if1
-    shared-slice-read-if1
-    mul-if1-2
-    shared-slice-read-if1-2
-    returns
-    returns-2)
+    pick-requires
+    returns)

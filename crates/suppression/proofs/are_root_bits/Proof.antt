@@ -1,0 +1,37 @@
+-- `are_root_bits` meets its contract: what passes is the nearest root of 01's own words. Assumes nothing.
+use mathlib.Core.Path.{refl}
+use borrow.Author.Needs.{needs}
+use borrow.Author.Tests.{leb-true, ltb-true}
+use Rattle.rules.proofs.Bools.{both}
+use Rattle.suppression.proofs.Testing.{root-bits}
+use Rattle.suppression.proofs.are_root_bits.Statement.{statement}
+use Rattle.suppression.proofs.are_root_bits.Tie as tie
+
+add-t : tie.Need-add-t
+add-t c = search needs
+
+sub-t : tie.Need-sub-t
+sub-t c = search needs
+
+mul-t : tie.Need-mul-t
+mul-t c = search needs
+
+shl-t : tie.Need-shl-t
+shl-t c = search needs
+
+add-is-near : tie.Need-add-is-near
+add-is-near c = search needs
+
+is-near-requires : tie.Need-is-near-requires
+is-near-requires c κs = search needs
+
+returns : tie.Need-returns
+returns c e =
+    let p = both _ _ e in
+    let q = both _ _ (p .0) in
+    let r = both _ _ (q .0) in
+    root-bits _ _ _ (ltb-true _ _ (r .0)) (leb-true _ _ (r .1)) (ltb-true _ _ (q .1)) refl (c .is-near .ensures (p .1))
+
+pub are-root-bits-spec : {M : Type 1} → statement M
+are-root-bits-spec =
+    tie.close (tie.spec add-t sub-t mul-t shl-t add-is-near is-near-requires returns)
