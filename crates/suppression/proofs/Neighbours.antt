@@ -24,7 +24,7 @@ use Rattle.rules.proofs.Fill.{Filling, filling-part, recount}
 use Rattle.rules.proofs.Grid.{row-in, row-of, column-of}
 use Rattle.rules.proofs.Border.{diff}
 use Rattle.suppression.specs.Lent.{Pictures, InnerRow}
-use Rattle.suppression.specs.Steps.{stepOf, atStep, keptAt, rowAt}
+use Rattle.suppression.specs.Steps.{stepOf, atStep, beforeAt, afterAt, keptAt, rowAt}
 
 -- one back from n
 back : (n : ℕ) → 0 < n → natAbs (pos n +ℤ negsuc 0) ≡ n - 1
@@ -110,18 +110,16 @@ module _ (m : List Float) (w i : ℕ) (l : 0 < w) where
   at : {j k : ℕ} → j ≡ k → getD m j nan ≡ getD m k nan
   at e = ap (λ (k : ℕ). getD m k nan) e
 
-  pub before-is : w ≤ i → (sector : ℕ)
-      → atStep (stepOf sector 3) (getD m (i - 1) nan) (getD m (i - w + 1) nan) (getD m (i - w) nan) (getD m (i - w - 1) nan) ≡ getD m (i - stepOf sector w) nan
+  pub before-is : w ≤ i → (sector : ℕ) → beforeAt w m i (stepOf sector 3) ≡ getD m (i - stepOf sector w) nan
   unfolding atStep
   before-is h =
-      rows (λ n. atStep (stepBy 3 (n .1)) (getD m (i - 1) nan) (getD m (i - w + 1) nan) (getD m (i - w) nan) (getD m (i - w - 1) nan) ≡ getD m (i - stepBy w (n .1)) nan)
+      rows (λ n. beforeAt w m i (stepBy 3 (n .1)) ≡ getD m (i - stepBy w (n .1)) nan)
       (at (omega (arith, one))) (at (omega (arith, two))) (at (omega (arith, three))) (at (omega (arith, four)))
 
-  pub after-is : (sector : ℕ)
-      → atStep (stepOf sector 3) (getD m (i + 1) nan) (getD m (i + w - 1) nan) (getD m (i + w) nan) (getD m (i + w + 1) nan) ≡ getD m (i + stepOf sector w) nan
+  pub after-is : (sector : ℕ) → afterAt w m i (stepOf sector 3) ≡ getD m (i + stepOf sector w) nan
   unfolding atStep
   after-is =
-      rows (λ n. atStep (stepBy 3 (n .1)) (getD m (i + 1) nan) (getD m (i + w - 1) nan) (getD m (i + w) nan) (getD m (i + w + 1) nan) ≡ getD m (i + stepBy w (n .1)) nan)
+      rows (λ n. afterAt w m i (stepBy 3 (n .1)) ≡ getD m (i + stepBy w (n .1)) nan)
       (at (omega (arith, one))) (at (omega (arith, two))) (at (omega (arith, three))) (at (omega (arith, four)))
 
 -- ---- a pixel
@@ -175,8 +173,7 @@ module _ (d : Size) (m : List Float) (gx gy : List ℤ) (x y : ℕ) where
 -- what the code does at pixel i, by the step that it took and the two magnitudes that it chose
 pub kept-is : (w : ℕ) (m : List Float) (gx gy : List ℤ) (i sector step : ℕ) (a b r : Float) → 0 < w → w ≤ i
     → sector ≡ sectorOf (getD gx i (pos 0)) (getD gy i (pos 0)) → step ≡ stepOf sector 3
-    → a ≡ atStep step (getD m (i - 1) nan) (getD m (i - w + 1) nan) (getD m (i - w) nan) (getD m (i - w - 1) nan)
-    → b ≡ atStep step (getD m (i + 1) nan) (getD m (i + w - 1) nan) (getD m (i + w) nan) (getD m (i + w + 1) nan)
+    → a ≡ beforeAt w m i step → b ≡ afterAt w m i step
     → r ≡ cond (keeps (getD m i nan) a b) (getD m i nan) plusZero → r ≡ keptAt w m gx gy i
 unfolding keptAt
 kept-is w m gx gy i sector step a b r l h e s p q k =

@@ -48,10 +48,14 @@ pub record InnerRow (magnitude : List Float) (gx gy : List ℤ) (start width : �
   pub long-y : length gy ≡ length magnitude
 
 -- a pixel with all its neighbours
-pub record Inside (width : ℕ) (magnitude : List Float) (gx gy : List ℤ) (i : ℕ) : Type 0 where
+pub record Around (width : ℕ) (magnitude : List Float) (i : ℕ) : Type 0 where
   pub least : 0 < width
   pub most : width ≤ maxSide
   pub before : width + 1 ≤ i
   pub after : i + width + 1 < length magnitude
+
+-- and with its components
+pub record Inside (width : ℕ) (magnitude : List Float) (gx gy : List ℤ) (i : ℕ) : Type 0 where
+  pub around : Around width magnitude i
   pub long-x : length gx ≡ length magnitude
   pub long-y : length gy ≡ length magnitude

@@ -18,6 +18,13 @@ stepOf sector w = natAbs (pos w *ℤ neighbours sector .1 .dy +ℤ neighbours se
 unfoldable pub atStep : ℕ → Float → Float → Float → Float → Float
 atStep step one two three four = cond (eqb step 1) one (cond (eqb step 2) two (cond (eqb step 3) three four))
 
+-- the magnitudes before and after pixel i, by that step: one entry away, or in the row beside
+abbrev pub beforeAt : ℕ → List Float → ℕ → ℕ → Float
+beforeAt w m i step = atStep step (getD m (i - 1) nan) (getD m (i - w + 1) nan) (getD m (i - w) nan) (getD m (i - w - 1) nan)
+
+abbrev pub afterAt : ℕ → List Float → ℕ → ℕ → Float
+afterAt w m i step = atStep step (getD m (i + 1) nan) (getD m (i + w - 1) nan) (getD m (i + w) nan) (getD m (i + w + 1) nan)
+
 -- what stands at inner pixel i afterwards
 unfoldable pub keptAt : ℕ → List Float → List ℤ → List ℤ → ℕ → Float
 keptAt w magnitudes gx gy i =

@@ -20,8 +20,8 @@ ghost use Rattle.rules.specs.Sector.{sectorOf};
 ghost use Rattle.rules.specs.Suppression.{suppressedAt};
 ghost use Rattle.rules.specs.Refusals.{first, magnitudeRows, suppressionRows};
 ghost use Rattle.rules.specs.Calls.{magnitudeAt, painted, gradientMagnitude, nonMaximumSuppression};
-ghost use Rattle.suppression.specs.Lent.{SizeOf, BitsOf, Target, AllBelow, Inside, InnerRow, Pictures};
-ghost use Rattle.suppression.specs.Steps.{stepOf, atStep, keptAt, rowAt};
+ghost use Rattle.suppression.specs.Lent.{SizeOf, BitsOf, Target, AllBelow, Around, Inside, InnerRow, Pictures};
+ghost use Rattle.suppression.specs.Steps.{stepOf, atStep, beforeAt, afterAt, keptAt, rowAt};
 
 // ---- components
 
@@ -325,28 +325,44 @@ fn at_step(step: u8, one: f32, two: f32, three: f32, four: f32) -> f32
     )
 }
 
+// The neighbour that stands before inner pixel i.
+fn neighbour_before(magnitude: &[f32], width: usize, i: usize, step: u8) -> f32
+    requires { ⌜ Around width (now magnitude) i ⌝ }
+    ensures { λ r. ⌜ r ≡ beforeAt width (now (magnitude .entry)) i step ⌝ }
+{
+    let above = i - width;
+    at_step(
+        step,
+        magnitude[i - 1],
+        magnitude[above + 1],
+        magnitude[above],
+        magnitude[above - 1],
+    )
+}
+
+// The neighbour that stands after it.
+fn neighbour_after(magnitude: &[f32], width: usize, i: usize, step: u8) -> f32
+    requires { ⌜ Around width (now magnitude) i ⌝ }
+    ensures { λ r. ⌜ r ≡ afterAt width (now (magnitude .entry)) i step ⌝ }
+{
+    let below = i + width;
+    at_step(
+        step,
+        magnitude[i + 1],
+        magnitude[below - 1],
+        magnitude[below],
+        magnitude[below + 1],
+    )
+}
+
 // What stands at inner pixel i afterwards: its magnitude, if it is at least both neighbours'.
 fn suppressed(magnitude: &[f32], gx: &[i16], gy: &[i16], width: usize, i: usize) -> f32
     requires { ⌜ Inside width (now magnitude) (now gx) (now gy) i ⌝ }
     ensures { λ r. ⌜ r ≡ keptAt width (now (magnitude .entry)) (now (gx .entry)) (now (gy .entry)) i ⌝ }
 {
     let step = neighbour_step(sector(gx[i], gy[i]));
-    let above = i - width;
-    let below = i + width;
-    let before = at_step(
-        step,
-        magnitude[i - 1],
-        magnitude[above + 1],
-        magnitude[above],
-        magnitude[above - 1],
-    );
-    let after = at_step(
-        step,
-        magnitude[i + 1],
-        magnitude[below - 1],
-        magnitude[below],
-        magnitude[below + 1],
-    );
+    let before = neighbour_before(magnitude, width, i, step);
+    let after = neighbour_after(magnitude, width, i, step);
     let m = magnitude[i];
     pick((before <= m) & (after <= m), m, 0.0)
 }
