@@ -7,9 +7,6 @@ use Rattle.suppression.proofs.Testing.{zero-bits, cap-bits}
 use Rattle.suppression.proofs.are_bits.Statement.{statement}
 use Rattle.suppression.proofs.are_bits.Tie as tie
 
-are-root-bits-requires : tie.Need-are-root-bits-requires
-are-root-bits-requires c κs = search needs
-
 returns : tie.Need-returns
 returns c e =
     ⊎-elim
@@ -19,4 +16,4 @@ returns c e =
     (c .are-root-bits .ensures) (either _ _ e)
 
 pub are-bits-spec : {M : Type 1} → statement M
-are-bits-spec = tie.close (tie.spec are-root-bits-requires returns)
+are-bits-spec = tie.close (tie.spec (λ c κs. search needs) returns)

@@ -28,39 +28,6 @@ abbrev μ-loop : tie.MeasureT-loop
 loop-holds : tie.Need-loop-holds Inv-loop μ-loop
 loop-holds c = (zero≤, λ e i h. absurd (omega arith))
 
-mul-energy : tie.Need-mul-energy Inv-loop μ-loop
-mul-energy c = search needs
-
-shared-slice-copy-out-energy : tie.Need-shared-slice-copy-out-energy Inv-loop μ-loop
-shared-slice-copy-out-energy c = search needs
-
-mul-energy-2 : tie.Need-mul-energy-2 Inv-loop μ-loop
-mul-energy-2 c = search needs
-
-shared-slice-copy-out-energy-2 : tie.Need-shared-slice-copy-out-energy-2 Inv-loop μ-loop
-shared-slice-copy-out-energy-2 c = search needs
-
-energy-requires : tie.Need-energy-requires Inv-loop μ-loop
-energy-requires c κs = search needs
-
-mul-bits-of : tie.Need-mul-bits-of Inv-loop μ-loop
-mul-bits-of c = search needs
-
-shared-slice-read-bits-of : tie.Need-shared-slice-read-bits-of Inv-loop μ-loop
-shared-slice-read-bits-of c = search needs
-
-bits-of-requires : tie.Need-bits-of-requires Inv-loop μ-loop
-bits-of-requires c κs = search needs
-
-are-bits-requires : tie.Need-are-bits-requires Inv-loop μ-loop
-are-bits-requires c κs = search needs
-
-add-i : tie.Need-add-i Inv-loop μ-loop
-add-i c = search needs
-
-loop-less : tie.Need-loop-less Inv-loop μ-loop
-loop-less c = search needs
-
 -- an entry whose bits pass is the magnitude
 entry : (c : tie.After-are-bits Inv-loop μ-loop) → c .are-bits .result ≡ true
     → let a = c .before .before .before .before .before .before .before .before .before .args in let i = c .before .before .before .before .before .before .before .loop .i in
@@ -83,20 +50,5 @@ returns c e i h = c .before .loop .inv .1 e i (omega arith)
 pub are-magnitudes-spec : {M : Type 1} → statement M
 are-magnitudes-spec =
     tie.close
-    (tie.spec
-    Inv-loop
-    μ-loop
-    loop-holds
-    mul-energy
-    shared-slice-copy-out-energy
-    mul-energy-2
-    shared-slice-copy-out-energy-2
-    energy-requires
-    mul-bits-of
-    shared-slice-read-bits-of
-    bits-of-requires
-    are-bits-requires
-    add-i
-    loop-less
-    loop-again
-    returns)
+    (tie.spec Inv-loop μ-loop loop-holds (λ c. search needs) (λ c. search needs) (λ c. search needs) (λ c. search needs) (λ c κs. search needs)
+    (λ c. search needs) (λ c. search needs) (λ c κs. search needs) (λ c κs. search needs) (λ c. search needs) (λ c. search needs) loop-again returns)

@@ -7,24 +7,6 @@ use Rattle.suppression.proofs.Testing.{root-bits}
 use Rattle.suppression.proofs.are_root_bits.Statement.{statement}
 use Rattle.suppression.proofs.are_root_bits.Tie as tie
 
-add-t : tie.Need-add-t
-add-t c = search needs
-
-sub-t : tie.Need-sub-t
-sub-t c = search needs
-
-mul-t : tie.Need-mul-t
-mul-t c = search needs
-
-shl-t : tie.Need-shl-t
-shl-t c = search needs
-
-add-is-near : tie.Need-add-is-near
-add-is-near c = search needs
-
-is-near-requires : tie.Need-is-near-requires
-is-near-requires c κs = search needs
-
 returns : tie.Need-returns
 returns c e =
     let p = both _ _ e in
@@ -34,4 +16,5 @@ returns c e =
 
 pub are-root-bits-spec : {M : Type 1} → statement M
 are-root-bits-spec =
-    tie.close (tie.spec add-t sub-t mul-t shl-t add-is-near is-near-requires returns)
+    tie.close
+    (tie.spec (λ c. search needs) (λ c. search needs) (λ c. search needs) (λ c. search needs) (λ c. search needs) (λ c κs. search needs) returns)

@@ -4,18 +4,9 @@ use Rattle.suppression.specs.Steps.{atStep}
 use Rattle.suppression.proofs.at_step.Statement.{statement}
 use Rattle.suppression.proofs.at_step.Tie as tie
 
-pick-requires : tie.Need-pick-requires
-pick-requires c κs = search needs
-
-pick-requires-2 : tie.Need-pick-requires-2
-pick-requires-2 c κs = search needs
-
-pick-requires-3 : tie.Need-pick-requires-3
-pick-requires-3 c κs = search needs
-
 returns : tie.Need-returns
 unfolding atStep
 returns c = rw (c .pick3 .ensures, c .before .pick2 .ensures, c .before .before .pick .ensures)
 
 pub at-step-spec : {M : Type 1} → statement M
-at-step-spec = tie.close (tie.spec pick-requires pick-requires-2 pick-requires-3 returns)
+at-step-spec = tie.close (tie.spec (λ c κs. search needs) (λ c κs. search needs) (λ c κs. search needs) returns)

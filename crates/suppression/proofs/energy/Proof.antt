@@ -7,12 +7,6 @@ use Rattle.suppression.proofs.Components.{product-small, energy-is}
 use Rattle.suppression.proofs.energy.Statement.{statement}
 use Rattle.suppression.proofs.energy.Tie as tie
 
-size-of-requires : tie.Need-size-of-requires
-size-of-requires c κs = search needs
-
-size-of-requires-2 : tie.Need-size-of-requires-2
-size-of-requires-2 c κs = search needs
-
 mul-result : tie.Need-mul-result
 mul-result c = let h = c .before .size-of .ensures .most in omega (arith, product-small _ _ h h)
 
@@ -30,4 +24,4 @@ returns c =
     (rw (toZ-ofZ w16 (s .args .gy) (s .fits .gy)) at (c .size-of2 .ensures .is))
 
 pub energy-spec : {M : Type 1} → statement M
-energy-spec = tie.close (tie.spec size-of-requires size-of-requires-2 mul-result mul-result-2 add-result returns)
+energy-spec = tie.close (tie.spec (λ c κs. search needs) (λ c κs. search needs) mul-result mul-result-2 add-result returns)

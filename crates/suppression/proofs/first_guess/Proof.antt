@@ -8,17 +8,10 @@ use Rattle.suppression.proofs.first_guess.Tie as tie
 float-to-bits-result : tie.Need-float-to-bits-result
 float-to-bits-result c = no-nan _ _ (c .if1 .taken)
 
-add-result : tie.Need-add-result
-add-result c = search needs
-
 float-from-bits-result : tie.Need-float-from-bits-result
 float-from-bits-result c = low-bits _ (omega arith)
 
-returns : tie.Need-returns
-returns c = search needs
-
-returns-2 : tie.Need-returns-2
-returns-2 c = search needs
-
 pub first-guess-spec : {M : Type 1} → statement M
-first-guess-spec = tie.close (tie.spec float-to-bits-result add-result float-from-bits-result returns returns-2)
+first-guess-spec =
+    tie.close
+    (tie.spec float-to-bits-result (λ c. search needs) float-from-bits-result (λ c. search needs) (λ c. search needs))

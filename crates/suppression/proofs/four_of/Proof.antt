@@ -6,20 +6,8 @@ use Rattle.rules.proofs.Computed.{at}
 use Rattle.suppression.proofs.four_of.Statement.{statement}
 use Rattle.suppression.proofs.four_of.Tie as tie
 
-mul-result : tie.Need-mul-result
-mul-result c = search needs
-
-add-result : tie.Need-add-result
-add-result c = search needs
-
-cast-result : tie.Need-cast-result
-cast-result c = search needs
-
-shl-result : tie.Need-shl-result
-shl-result c = search needs
-
 returns : tie.Need-returns
 returns c = eqb→eq _ _ (at (λ i. eqb ((1 * 2 ^ (2 * i + 32)) % 18446744073709551616) (4 ^ (i + 16))) 8 tt (c .args .i) (c .pre))
 
 pub four-of-spec : {M : Type 1} → statement M
-four-of-spec = tie.close (tie.spec mul-result add-result cast-result shl-result returns)
+four-of-spec = tie.close (tie.spec (λ c. search needs) (λ c. search needs) (λ c. search needs) (λ c. search needs) returns)

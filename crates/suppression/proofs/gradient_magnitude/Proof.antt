@@ -12,12 +12,6 @@ use Rattle.suppression.proofs.gradient_magnitude.Tie as tie
 fit : (c : tie.Else1) → let a = c .before .before .before .before .args in Components (a .size) (now (a .gx)) (now (a .gy)) (now (a .magnitude))
 fit c = magnitude-fit _ _ _ _ (sym (c .before .of-magnitude .ensures) ∙ c .if1 .left)
 
-of-magnitude-requires : tie.Need-of-magnitude-requires
-of-magnitude-requires c κs = search needs
-
-same-length : tie.Need-same-length
-same-length c = search needs
-
 returns : tie.Need-returns
 unfolding gradientMagnitude
 returns c = refused-is _ _ (c .before .of-magnitude .ensures) _ (now (c .before .before .before .before .args .magnitude)) (c .if1 .taken)
@@ -28,9 +22,6 @@ mul-magnitudes c = omega (arith, fit (c .before) .sides .small)
 magnitudes-requires : tie.Need-magnitudes-requires
 magnitudes-requires c κs = let p = fit (c .before .before) in search needs
 
-same-length-2 : tie.Need-same-length-2
-same-length-2 c = search needs
-
 returns-2 : tie.Need-returns-2
 unfolding gradientMagnitude
 returns-2 c =
@@ -40,11 +31,4 @@ returns-2 c =
 pub gradient-magnitude-spec : {M : Type 1} → statement M
 gradient-magnitude-spec =
     tie.close
-    (tie.spec
-    of-magnitude-requires
-    same-length
-    returns
-    mul-magnitudes
-    magnitudes-requires
-    same-length-2
-    returns-2)
+    (tie.spec (λ c κs. search needs) (λ c. search needs) returns mul-magnitudes magnitudes-requires (λ c. search needs) returns-2)

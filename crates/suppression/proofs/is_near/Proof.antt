@@ -7,26 +7,14 @@ use Rattle.suppression.proofs.Testing.{reaches, product-fits}
 use Rattle.suppression.proofs.is_near.Statement.{statement}
 use Rattle.suppression.proofs.is_near.Tie as tie
 
-add-v : tie.Need-add-v
-add-v c = search needs
-
-cast-v : tie.Need-cast-v
-cast-v c = search needs
-
 mul-v : tie.Need-mul-v
 mul-v c = omega (arith, product-fits (c .args .m) (c .pre))
 
 cast-high : tie.Need-cast-high
 cast-high c = omega (arith, product-fits (c .args .m) (c .pre))
 
-cast-low : tie.Need-cast-low
-cast-low c = search needs
-
-mul-result : tie.Need-mul-result
-mul-result c = search needs
-
 returns : tie.Need-returns
 returns c e = let p = both _ _ e in reaches (c .args .t) (c .args .m) (eqb-true _ _ (p .0)) (ltb-true _ _ (p .1))
 
 pub is-near-spec : {M : Type 1} → statement M
-is-near-spec = tie.close (tie.spec add-v cast-v mul-v cast-high cast-low mul-result returns)
+is-near-spec = tie.close (tie.spec (λ c. search needs) (λ c. search needs) mul-v cast-high (λ c. search needs) (λ c. search needs) returns)

@@ -10,12 +10,6 @@ returns : tie.Need-returns
 unfolding magnitudeOf
 returns c = rw (eq-eqb _ _ (c .if1 .taken))
 
-guess-requires : tie.Need-guess-requires
-guess-requires c κs = search needs
-
-root-from-requires : tie.Need-root-from-requires
-root-from-requires c κs = search needs
-
 returns-2 : tie.Need-returns-2
 unfolding magnitudeOf
 returns-2 c = rw (ne-eqb _ _ (c .before .before .before .if1 .left), lt-leb _ _ (c .before .before .if2 .taken)) (c .root-from .ensures)
@@ -25,5 +19,4 @@ unfolding magnitudeOf
 returns-3 c = rw (ne-eqb _ _ (c .before .if1 .left), le-leb _ _ (c .if2 .left)) cap-is
 
 pub magnitude-of-spec : {M : Type 1} → statement M
-magnitude-of-spec =
-    tie.close (tie.spec returns guess-requires root-from-requires returns-2 returns-3)
+magnitude-of-spec = tie.close (tie.spec returns (λ c κs. search needs) (λ c κs. search needs) returns-2 returns-3)

@@ -8,12 +8,6 @@ use Rattle.suppression.proofs.Answers.{suppression-fit}
 use Rattle.suppression.proofs.non_maximum_suppression.Statement.{statement}
 use Rattle.suppression.proofs.non_maximum_suppression.Tie as tie
 
-of-suppression-requires : tie.Need-of-suppression-requires
-of-suppression-requires c κs = search needs
-
-same-length : tie.Need-same-length
-same-length c = search needs
-
 returns : tie.Need-returns
 unfolding nonMaximumSuppression
 returns c = refused-is _ _ (c .before .of-suppression .ensures) _ (now (c .before .before .before .before .before .args .out)) (c .if1 .taken)
@@ -23,9 +17,6 @@ suppress-requires c κs =
     let a = c .before .before .before .before .before .before .args in
     suppression-fit (a .size) (now (a .magnitude)) (now (a .gx)) (now (a .gy)) (now (a .out)) (sym (c .before .before .of-suppression .ensures) ∙ c .before .if1 .left)
 
-same-length-2 : tie.Need-same-length-2
-same-length-2 c = search needs
-
 returns-2 : tie.Need-returns-2
 unfolding nonMaximumSuppression
 returns-2 c = accepted-is _ _ (c .before .before .before .before .before .of-suppression .ensures) _ (now (c .before .before .before .before .before .before .before .before .before .args .out)) _ (c .before .before .before .before .if1 .left) (c .before .before .suppress .ensures)
@@ -33,10 +24,4 @@ returns-2 c = accepted-is _ _ (c .before .before .before .before .before .of-sup
 pub non-maximum-suppression-spec : {M : Type 1} → statement M
 non-maximum-suppression-spec =
     tie.close
-    (tie.spec
-    of-suppression-requires
-    same-length
-    returns
-    suppress-requires
-    same-length-2
-    returns-2)
+    (tie.spec (λ c κs. search needs) (λ c. search needs) returns suppress-requires (λ c. search needs) returns-2)

@@ -13,9 +13,6 @@ use Rattle.suppression.proofs.of_suppression.Tie as tie
 sides : (c : tie.Else1) → sideRow (c .before .before .before .before .args .size) .applies ≡ false
 sides c = sym (c .before .side-over .ensures) ∙ c .if1 .left
 
-side-over-requires : tie.Need-side-over-requires
-side-over-requires c κs = search needs
-
 returns : tie.Need-returns
 returns c = rw (sym (c .before .side-over .ensures) ∙ c .if1 .taken)
 
@@ -38,6 +35,4 @@ returns-6 : tie.Need-returns-6
 returns-6 c = rw (sides (c .before .before .before .before .before), eq-eqb _ _ (c .before .before .before .if2 .left), eq-eqb _ _ (c .before .before .if3 .left), eq-eqb _ _ (c .before .if4 .left), le-ltb _ _ (c .if5 .left))
 
 pub of-suppression-spec : {M : Type 1} → statement M
-of-suppression-spec =
-    tie.close
-    (tie.spec side-over-requires returns mul-n returns-2 returns-3 returns-4 returns-5 returns-6)
+of-suppression-spec = tie.close (tie.spec (λ c κs. search needs) returns mul-n returns-2 returns-3 returns-4 returns-5 returns-6)

@@ -21,36 +21,6 @@ abbrev μ-loop : tie.MeasureT-loop
 loop-holds : tie.Need-loop-holds Inv-loop μ-loop
 loop-holds c = let a = c .before .args in filling-start (a .n) (magnitudeAt (now (a .gx)) (now (a .gy))) (now (a .magnitude))
 
-mul-energy : tie.Need-mul-energy Inv-loop μ-loop
-mul-energy c = search needs
-
-shared-slice-copy-out-energy : tie.Need-shared-slice-copy-out-energy Inv-loop μ-loop
-shared-slice-copy-out-energy c = search needs
-
-mul-energy-2 : tie.Need-mul-energy-2 Inv-loop μ-loop
-mul-energy-2 c = search needs
-
-shared-slice-copy-out-energy-2 : tie.Need-shared-slice-copy-out-energy-2 Inv-loop μ-loop
-shared-slice-copy-out-energy-2 c = search needs
-
-energy-requires : tie.Need-energy-requires Inv-loop μ-loop
-energy-requires c κs = search needs
-
-magnitude-of-requires : tie.Need-magnitude-of-requires Inv-loop μ-loop
-magnitude-of-requires c κs = search needs
-
-mul-magnitude : tie.Need-mul-magnitude Inv-loop μ-loop
-mul-magnitude c = search needs
-
-slice-write-magnitude : tie.Need-slice-write-magnitude Inv-loop μ-loop
-slice-write-magnitude c = search needs
-
-add-i : tie.Need-add-i Inv-loop μ-loop
-add-i c = search needs
-
-loop-less : tie.Need-loop-less Inv-loop μ-loop
-loop-less c = search needs
-
 loop-again : tie.Need-loop-again Inv-loop μ-loop
 loop-again c =
     let e = c .before in
@@ -62,9 +32,6 @@ loop-again c =
     filling-more (a .n) (l .i) (magnitudeAt (now (a .gx)) (now (a .gy))) (now (a .magnitude)) (l .magnitude) _ (s .pre .2) (e .before .before .before .loop-test .taken) (l .inv)
     (magnitude-at (now (a .gx)) (now (a .gy)) (l .i) _ _ (rw (x, y) at (e .energy .ensures)) (c .magnitude-of .ensures))
 
-same-length : tie.Need-same-length Inv-loop μ-loop
-same-length c = search needs
-
 returns : tie.Need-returns Inv-loop μ-loop
 returns c =
     let l = c .before .loop in
@@ -74,20 +41,5 @@ returns c =
 pub one-by-one-spec : {M : Type 1} → statement M
 one-by-one-spec =
     tie.close
-    (tie.spec
-    Inv-loop
-    μ-loop
-    loop-holds
-    mul-energy
-    shared-slice-copy-out-energy
-    mul-energy-2
-    shared-slice-copy-out-energy-2
-    energy-requires
-    magnitude-of-requires
-    mul-magnitude
-    slice-write-magnitude
-    add-i
-    loop-less
-    loop-again
-    same-length
-    returns)
+    (tie.spec Inv-loop μ-loop loop-holds (λ c. search needs) (λ c. search needs) (λ c. search needs) (λ c. search needs) (λ c κs. search needs)
+    (λ c κs. search needs) (λ c. search needs) (λ c. search needs) (λ c. search needs) (λ c. search needs) loop-again (λ c. search needs) returns)

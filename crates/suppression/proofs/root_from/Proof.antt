@@ -9,20 +9,11 @@ use Rattle.suppression.proofs.root_from.Tie as tie
 sub-k : tie.Need-sub-k
 sub-k c = shift-is (c .args .s) (c .pre .0) (c .pre .1) .0
 
-sub-k-2 : tie.Need-sub-k-2
-sub-k-2 c = search needs
-
 sub-four-of : tie.Need-sub-four-of
 sub-four-of c = shift-is (c .args .s) (c .pre .0) (c .pre .1) .1 .least
 
-four-of-requires : tie.Need-four-of-requires
-four-of-requires c κs = search needs
-
 mul-t : tie.Need-mul-t
 mul-t c = let a = c .before in omega (arith, high (a .args .s) _ (a .pre .0) (a .pre .1) (c .four-of .ensures))
-
-digits-requires : tie.Need-digits-requires
-digits-requires c κs = search needs
 
 mend-requires : tie.Need-mend-requires
 mend-requires c κs =
@@ -35,12 +26,6 @@ mend-requires c κs =
 
 root : (c : tie.After-mend) → NearestRoot (c .before .before .before .args .s) (c .mend .result) (shift (c .before .before .before .args .s))
 root c = let a = c .before .before .before in found (a .args .s) _ (a .pre .0) (a .pre .1) (c .before .before .four-of .ensures) _ (c .mend .ensures)
-
-sub-result : tie.Need-sub-result
-sub-result c = search needs
-
-mul-result : tie.Need-mul-result
-mul-result c = search needs
 
 sub-result-2 : tie.Need-sub-result-2
 sub-result-2 c = root c .least
@@ -64,18 +49,5 @@ returns c =
 pub root-from-spec : {M : Type 1} → statement M
 root-from-spec =
     tie.close
-    (tie.spec
-    sub-k
-    sub-k-2
-    sub-four-of
-    four-of-requires
-    mul-t
-    digits-requires
-    mend-requires
-    sub-result
-    mul-result
-    sub-result-2
-    cast-result
-    add-result
-    float-from-bits-result
-    returns)
+    (tie.spec sub-k (λ c. search needs) sub-four-of (λ c κs. search needs) mul-t (λ c κs. search needs) mend-requires (λ c. search needs)
+    (λ c. search needs) sub-result-2 cast-result add-result float-from-bits-result returns)

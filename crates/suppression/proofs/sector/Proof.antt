@@ -26,15 +26,6 @@ module _ (c : tie.After-size-of2) where
       let k = c .size-of2 .ensures .most in
       (product-small _ _ h h, product-small _ _ k k, product-small _ _ h k)
 
-size-of-requires : tie.Need-size-of-requires
-size-of-requires c κs = search needs
-
-size-of-requires-2 : tie.Need-size-of-requires-2
-size-of-requires-2 c κs = search needs
-
-add-if1 : tie.Need-add-if1
-add-if1 c = search needs
-
 returns : tie.Need-returns
 returns c = both-zero _ _ _ _ (a-is (c .before)) (b-is (c .before)) (c .if1 .taken)
 
@@ -87,20 +78,5 @@ returns-5 c =
 pub sector-spec : {M : Type 1} → statement M
 sector-spec =
     tie.close
-    (tie.spec
-    size-of-requires
-    size-of-requires-2
-    add-if1
-    returns
-    mul-twice
-    mul-twice-2
-    mul-if2
-    add-if2
-    mul-if2-2
-    returns-2
-    mul-if3
-    add-if3
-    mul-if3-2
-    returns-3
-    returns-4
-    returns-5)
+    (tie.spec (λ c κs. search needs) (λ c κs. search needs) (λ c. search needs) returns mul-twice mul-twice-2 mul-if2 add-if2 mul-if2-2 returns-2
+    mul-if3 add-if3 mul-if3-2 returns-3 returns-4 returns-5)

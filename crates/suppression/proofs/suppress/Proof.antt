@@ -16,24 +16,6 @@ use Rattle.suppression.proofs.Neighbours.{narrow-is}
 use Rattle.suppression.proofs.suppress.Statement.{statement}
 use Rattle.suppression.proofs.suppress.Tie as tie
 
-mul-n : tie.Need-mul-n
-mul-n c = search needs
-
-sub-clear : tie.Need-sub-clear
-sub-clear c = search needs
-
-part-clear-start : tie.Need-part-clear-start
-part-clear-start c = search needs
-
-part-clear-end : tie.Need-part-clear-end
-part-clear-end c = search needs
-
-clear-requires : tie.Need-clear-requires
-clear-requires c κs = search needs
-
-same-length : tie.Need-same-length
-same-length c = search needs
-
 returns : tie.Need-returns
 returns c =
     let s = c .before .before .before .before .before .before .before .before .before .before in
@@ -51,23 +33,8 @@ suppress-rows-requires c κs =
     let t = neither _ _ (c .before .if1 .left) in
     (s .pre .0, s .pre .1, ltb-false _ _ (t .0), ltb-false _ _ (t .1))
 
-same-length-2 : tie.Need-same-length-2
-same-length-2 c = search needs
-
-returns-2 : tie.Need-returns-2
-returns-2 c = search needs
-
 pub suppress-spec : {M : Type 1} → statement M
 suppress-spec =
     tie.close
-    (tie.spec
-    mul-n
-    sub-clear
-    part-clear-start
-    part-clear-end
-    clear-requires
-    same-length
-    returns
-    suppress-rows-requires
-    same-length-2
-    returns-2)
+    (tie.spec (λ c. search needs) (λ c. search needs) (λ c. search needs) (λ c. search needs) (λ c κs. search needs) (λ c. search needs) returns
+    suppress-rows-requires (λ c. search needs) (λ c. search needs))

@@ -21,9 +21,6 @@ Inv-loop magnitude gx gy start out₀ width x₀ out x =
 abbrev μ-loop : tie.MeasureT-loop
 μ-loop magnitude gx gy start out₀ width x₀ out x = width - x
 
-slice-write-out : tie.Need-slice-write-out Inv-loop μ-loop
-slice-write-out c = search needs
-
 -- what the row becomes
 abbrev row : tie.Start Inv-loop μ-loop → ℕ → Float
 row s = let a = s .args in rowAt (length (now (a .out))) (now (a .magnitude)) (now (a .gx)) (now (a .gy)) (a .start)
@@ -39,27 +36,6 @@ loop-holds c =
     let s = c .before .before in let a = s .args in
     (search needs, omega arith, simp length-set, refl, still 1 (row s) (now (a .out)) _ (opened c))
 
-add-loop : tie.Need-add-loop Inv-loop μ-loop
-add-loop c = search needs
-
-add-suppressed : tie.Need-add-suppressed Inv-loop μ-loop
-add-suppressed c = search needs
-
-suppressed-requires : tie.Need-suppressed-requires Inv-loop μ-loop
-suppressed-requires c κs = search needs
-
-mul-out : tie.Need-mul-out Inv-loop μ-loop
-mul-out c = search needs
-
-slice-write-out-2 : tie.Need-slice-write-out-2 Inv-loop μ-loop
-slice-write-out-2 c = search needs
-
-add-x : tie.Need-add-x Inv-loop μ-loop
-add-x c = search needs
-
-loop-less : tie.Need-loop-less Inv-loop μ-loop
-loop-less c = search needs
-
 loop-again : tie.Need-loop-again Inv-loop μ-loop
 loop-again c =
     let l = c .before .before .loop in
@@ -73,12 +49,6 @@ loop-again c =
       fill-more (l .x) (row s) (set (now (a .out)) 0 plusZero) (l .out) _ h (l .inv .4)
           (between-is (length (now (a .out))) _ _ _ _ (l .x) _ (l .inv .0) (c .before .loop-test .taken) (c .suppressed .ensures)),
     )
-
-mul-out-2 : tie.Need-mul-out-2 Inv-loop μ-loop
-mul-out-2 c = search needs
-
-slice-write-out-3 : tie.Need-slice-write-out-3 Inv-loop μ-loop
-slice-write-out-3 c = search needs
 
 same-length : tie.Need-same-length Inv-loop μ-loop
 same-length c = simp length-set (omega arith)
@@ -97,20 +67,5 @@ returns c =
 pub suppress-row-spec : {M : Type 1} → statement M
 suppress-row-spec =
     tie.close
-    (tie.spec
-    Inv-loop
-    μ-loop
-    slice-write-out
-    loop-holds
-    add-loop
-    add-suppressed
-    suppressed-requires
-    mul-out
-    slice-write-out-2
-    add-x
-    loop-less
-    loop-again
-    mul-out-2
-    slice-write-out-3
-    same-length
-    returns)
+    (tie.spec Inv-loop μ-loop (λ c. search needs) loop-holds (λ c. search needs) (λ c. search needs) (λ c κs. search needs) (λ c. search needs)
+    (λ c. search needs) (λ c. search needs) (λ c. search needs) loop-again (λ c. search needs) (λ c. search needs) same-length returns)

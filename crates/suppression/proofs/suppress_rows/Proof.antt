@@ -53,21 +53,12 @@ ends c =
 room : (c : tie.At-loop Inv-loop μ-loop) → let d = c .before .before .before .before .before .before .before .args .size in area d ≤ length (c .loop .out)
 room c = omega (arith, c .loop .inv .3 .same, c .before .before .out .given, c .before .before .before .before .before .before .before .pre .1)
 
-sub-clear : tie.Need-sub-clear Inv-loop μ-loop
-sub-clear c = search needs
-
-part-clear-start : tie.Need-part-clear-start Inv-loop μ-loop
-part-clear-start c = search needs
-
 part-clear-end : tie.Need-part-clear-end Inv-loop μ-loop
 part-clear-end c =
     let s = c .before .before in
     let a = s .args in
     let h = row-ends (a .size) (now (a .magnitude)) (now (a .gx)) (now (a .gy)) 0 0 (a .size .width) (omega arith) (sym (zero-mul _)) (sym (zero-add _)) in
     search needs
-
-clear-requires : tie.Need-clear-requires Inv-loop μ-loop
-clear-requires c κs = search needs
 
 loop-holds : tie.Need-loop-holds Inv-loop μ-loop
 loop-holds c =
@@ -76,20 +67,11 @@ loop-holds c =
     let o = opened (c .before .before) in
     (search needs, omega arith, sym (one-mul _), record { within = row-ends (a .size) (now (a .magnitude)) (now (a .gx)) (now (a .gy)) 0 0 (a .size .width) (omega arith) (sym (zero-mul _)) (sym (zero-add _)); same = refl; is = still (a .size .width) (pixels s) (now (a .out)) _ o })
 
-add-if1 : tie.Need-add-if1 Inv-loop μ-loop
-add-if1 c = search needs
-
 add-end : tie.Need-add-end Inv-loop μ-loop
 add-end c = omega (arith, ends (c .before .before), room (c .before .before))
 
 mul-suppress-row : tie.Need-mul-suppress-row Inv-loop μ-loop
 mul-suppress-row c = omega (arith, ends (c .before .before), room (c .before .before))
-
-sub-suppress-row : tie.Need-sub-suppress-row Inv-loop μ-loop
-sub-suppress-row c = search needs
-
-part-suppress-row-start : tie.Need-part-suppress-row-start Inv-loop μ-loop
-part-suppress-row-start c = search needs
 
 part-suppress-row-end : tie.Need-part-suppress-row-end Inv-loop μ-loop
 part-suppress-row-end c = let h = ends (c .before .before) in let k = room (c .before .before) in search needs
@@ -102,12 +84,6 @@ suppress-row-requires c κs =
     let h = ends l in
     let k = room l in
     has-rows (a .size) _ _ _ (l .loop .y) (l .loop .start) _ (s .pre .0) (l .loop .inv .2) (part-length (l .loop .out) (l .loop .start) (l .loop .start + a .size .width) (a .size .width) refl (omega arith)) (l .loop .inv .0) (c .before .if1 .taken) (s .pre .2)
-
-add-y : tie.Need-add-y Inv-loop μ-loop
-add-y c = search needs
-
-loop-less : tie.Need-loop-less Inv-loop μ-loop
-loop-less c = search needs
 
 loop-again : tie.Need-loop-again Inv-loop μ-loop
 loop-again c =
@@ -131,20 +107,8 @@ add-end-2 c = omega (arith, ends (c .before .before), room (c .before .before))
 mul-clear : tie.Need-mul-clear Inv-loop μ-loop
 mul-clear c = omega (arith, ends (c .before .before), room (c .before .before))
 
-sub-clear-2 : tie.Need-sub-clear-2 Inv-loop μ-loop
-sub-clear-2 c = search needs
-
-part-clear-start-2 : tie.Need-part-clear-start-2 Inv-loop μ-loop
-part-clear-start-2 c = search needs
-
 part-clear-end-2 : tie.Need-part-clear-end-2 Inv-loop μ-loop
 part-clear-end-2 c = let h = ends (c .before .before) in let k = room (c .before .before) in search needs
-
-clear-requires-2 : tie.Need-clear-requires-2 Inv-loop μ-loop
-clear-requires-2 c κs = search needs
-
-same-length : tie.Need-same-length Inv-loop μ-loop
-same-length c = search needs
 
 returns : tie.Need-returns Inv-loop μ-loop
 returns c =
@@ -165,29 +129,6 @@ returns c =
 pub suppress-rows-spec : {M : Type 1} → statement M
 suppress-rows-spec =
     tie.close
-    (tie.spec
-    Inv-loop
-    μ-loop
-    sub-clear
-    part-clear-start
-    part-clear-end
-    clear-requires
-    loop-holds
-    add-if1
-    add-end
-    mul-suppress-row
-    sub-suppress-row
-    part-suppress-row-start
-    part-suppress-row-end
-    suppress-row-requires
-    add-y
-    loop-less
-    loop-again
-    add-end-2
-    mul-clear
-    sub-clear-2
-    part-clear-start-2
-    part-clear-end-2
-    clear-requires-2
-    same-length
-    returns)
+    (tie.spec Inv-loop μ-loop (λ c. search needs) (λ c. search needs) part-clear-end (λ c κs. search needs) loop-holds (λ c. search needs) add-end
+    mul-suppress-row (λ c. search needs) (λ c. search needs) part-suppress-row-end suppress-row-requires (λ c. search needs) (λ c. search needs)
+    loop-again add-end-2 mul-clear (λ c. search needs) (λ c. search needs) part-clear-end-2 (λ c κs. search needs) (λ c. search needs) returns)

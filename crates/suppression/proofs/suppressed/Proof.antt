@@ -21,39 +21,6 @@ sector-is c =
     let y = toZ-ofZ w16 (getD (now (a .gy)) (a .i) (pos 0)) (sfits-of (c .before .sector-arg2 .given)) in
     rw (x, y) at (c .sector .ensures)
 
-mul-sector : tie.Need-mul-sector
-mul-sector c = search needs
-
-shared-slice-copy-out-sector : tie.Need-shared-slice-copy-out-sector
-shared-slice-copy-out-sector c = search needs
-
-mul-sector-2 : tie.Need-mul-sector-2
-mul-sector-2 c = search needs
-
-shared-slice-copy-out-sector-2 : tie.Need-shared-slice-copy-out-sector-2
-shared-slice-copy-out-sector-2 c = search needs
-
-sector-requires : tie.Need-sector-requires
-sector-requires c κs = search needs
-
-neighbour-step-requires : tie.Need-neighbour-step-requires
-neighbour-step-requires c κs = search needs
-
-neighbour-before-requires : tie.Need-neighbour-before-requires
-neighbour-before-requires c κs = search needs
-
-neighbour-after-requires : tie.Need-neighbour-after-requires
-neighbour-after-requires c κs = search needs
-
-mul-m : tie.Need-mul-m
-mul-m c = search needs
-
-shared-slice-read-m : tie.Need-shared-slice-read-m
-shared-slice-read-m c = search needs
-
-pick-requires : tie.Need-pick-requires
-pick-requires c κs = search needs
-
 returns : tie.Need-returns
 returns c =
     let b = c .before .before in
@@ -65,16 +32,5 @@ returns c =
 pub suppressed-spec : {M : Type 1} → statement M
 suppressed-spec =
     tie.close
-    (tie.spec
-    mul-sector
-    shared-slice-copy-out-sector
-    mul-sector-2
-    shared-slice-copy-out-sector-2
-    sector-requires
-    neighbour-step-requires
-    neighbour-before-requires
-    neighbour-after-requires
-    mul-m
-    shared-slice-read-m
-    pick-requires
-    returns)
+    (tie.spec (λ c. search needs) (λ c. search needs) (λ c. search needs) (λ c. search needs) (λ c κs. search needs) (λ c κs. search needs)
+    (λ c κs. search needs) (λ c κs. search needs) (λ c. search needs) (λ c. search needs) (λ c κs. search needs) returns)
