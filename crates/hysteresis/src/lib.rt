@@ -1,9 +1,11 @@
 // The walk of canny.rs, which joins weak pixels to strong ones: start, slices of a budget, and the map. The state travels by value; the
 // marks and the stack are lent beside it (01.Walk).
-mod refusals;
 mod starting;
 mod takes;
 
+use refusals::walk::of_map;
+use refusals::walk::of_slice;
+use refusals::walk::of_start;
 use rules::ACCEPTED;
 use rules::EDGE;
 use rules::MARK_FINISHED;
@@ -29,7 +31,7 @@ pub fn start(
 ) -> Started
     ensures { λ r. ⌜ (r, (now (marks .exit), now (stack .exit))) ≡ Calls.start size thresholds (now (magnitudes .entry)) (now (marks .entry)) (now (stack .entry)) ⌝ }
 {
-    let refusal = refusals::of_start(magnitudes, size, thresholds, marks, stack);
+    let refusal = of_start(magnitudes, size, thresholds, marks, stack);
     if refusal != ACCEPTED {
         return Started {
             refusal,
@@ -61,7 +63,7 @@ pub fn slice(walk: Walk, budget: usize, marks: &mut [u8], stack: &mut [u32]) -> 
         width: walk.width,
         height: walk.height,
     };
-    let refusal = refusals::of_slice(marks, stack, walk.pending, size, budget);
+    let refusal = of_slice(marks, stack, walk.pending, size, budget);
     if refusal != ACCEPTED {
         return Sliced {
             refusal,
@@ -89,7 +91,7 @@ pub fn map(walk: Walk, marks: &[u8], stack: &[u32], out: &mut [u8]) -> Mapped
         width: walk.width,
         height: walk.height,
     };
-    let refusal = refusals::of_map(marks, stack, walk.pending, size, out);
+    let refusal = of_map(marks, stack, walk.pending, size, out);
     if refusal != ACCEPTED {
         return Mapped { refusal, walk };
     }

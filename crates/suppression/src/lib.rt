@@ -1,11 +1,9 @@
 // Canny's gradient stages: the magnitude of a gradient, its sector, and non-maximum suppression. Each public call refuses by number
 // or runs by document 01's rules.
+use refusals::gradient::of_magnitude;
+use refusals::gradient::of_suppression;
 use rules::ACCEPTED;
-use rules::REFUSED_INPUT;
-use rules::REFUSED_ROOM;
-use rules::REFUSED_SIDE;
 use rules::Size;
-use rules::table::side_over;
 ghost use mathlib.Core.Path.{_≡_};
 ghost use mathlib.Core.Bool.{true, cond};
 ghost use Prim.Native.Nat.{_+_, _*_, _^_, _<_, _≤_};
@@ -18,7 +16,6 @@ ghost use Rattle.rules.specs.Gradient.{energy};
 ghost use Rattle.rules.specs.Root.{capS, Near, nearRoot, rootOf, magnitudeOf};
 ghost use Rattle.rules.specs.Sector.{sectorOf};
 ghost use Rattle.rules.specs.Suppression.{suppressedAt};
-ghost use Rattle.rules.specs.Refusals.{first, magnitudeRows, suppressionRows};
 ghost use Rattle.rules.specs.Calls.{magnitudeAt, painted, gradientMagnitude, nonMaximumSuppression};
 ghost use Rattle.suppression.specs.Lent.{SizeOf, BitsOf, Target, AllBelow, Around, Inside, InnerRow, Pictures};
 ghost use Rattle.suppression.specs.Steps.{stepOf, atStep, beforeAt, afterAt, keptAt, rowAt};
@@ -193,48 +190,6 @@ pub fn magnitude_of(s: u32) -> f32
 }
 
 // ---- the calls
-
-// The rows of 01's table that each call has, in ascending order.
-fn of_magnitude(gx: &[i16], gy: &[i16], size: Size, magnitude: &[f32]) -> u8
-    ensures { λ r. ⌜ r ≡ first (magnitudeRows size (now (gx .entry)) (now (gy .entry)) (now (magnitude .entry))) ⌝ }
-{
-    if side_over(size) {
-        return REFUSED_SIDE;
-    }
-    let n = size.width * size.height;
-    if gx.len() != n {
-        return REFUSED_INPUT;
-    }
-    if gy.len() != n {
-        return REFUSED_INPUT;
-    }
-    if magnitude.len() < n {
-        return REFUSED_ROOM;
-    }
-    ACCEPTED
-}
-
-fn of_suppression(magnitude: &[f32], gx: &[i16], gy: &[i16], size: Size, out: &[f32]) -> u8
-    ensures { λ r. ⌜ r ≡ first (suppressionRows size (now (magnitude .entry)) (now (gx .entry)) (now (gy .entry)) (now (out .entry))) ⌝ }
-{
-    if side_over(size) {
-        return REFUSED_SIDE;
-    }
-    let n = size.width * size.height;
-    if magnitude.len() != n {
-        return REFUSED_INPUT;
-    }
-    if gx.len() != n {
-        return REFUSED_INPUT;
-    }
-    if gy.len() != n {
-        return REFUSED_INPUT;
-    }
-    if out.len() < n {
-        return REFUSED_ROOM;
-    }
-    ACCEPTED
-}
 
 // A guess for each of n entries. It promises nothing of them, so that the loop is free to be fast.
 fn guesses(gx: &[i16], gy: &[i16], n: usize, magnitude: &mut [f32])

@@ -9,8 +9,8 @@ use Rattle.rules.specs.Limits.{maxSide}
 use Rattle.rules.specs.Picture.{area}
 use Rattle.rules.specs.Refusals.{sideRow, badThreshold}
 use Rattle.rules.proofs.Rows.{side-off}
-use Rattle.hysteresis.proofs.refusals.of_start.Statement.{statement}
-use Rattle.hysteresis.proofs.refusals.of_start.Tie as tie
+use Rattle.refusals.proofs.walk.of_start.Statement.{statement}
+use Rattle.refusals.proofs.walk.of_start.Tie as tie
 
 -- past the first test both sides are in the limit
 side : (c : tie.Else1) → sideRow (c .before .before .before .before .before .args .size) .applies ≡ false

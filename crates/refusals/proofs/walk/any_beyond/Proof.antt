@@ -9,8 +9,8 @@ use lib.Dec.{leb}
 use lib.ListN.{getD}
 use Rattle.rules.specs.Picture.{anyBelow}
 use Rattle.rules.proofs.Tests.{any-more, some-any}
-use Rattle.hysteresis.proofs.refusals.any_beyond.Statement.{statement}
-use Rattle.hysteresis.proofs.refusals.any_beyond.Tie as tie
+use Rattle.refusals.proofs.walk.any_beyond.Statement.{statement}
+use Rattle.refusals.proofs.walk.any_beyond.Tie as tie
 
 abbrev Inv-loop : tie.InvT-loop
 Inv-loop stack p n i₀ i = (i ≤ p) × (false ≡ anyBelow (λ j. leb n (getD stack j 0)) i)

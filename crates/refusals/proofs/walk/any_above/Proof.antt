@@ -7,8 +7,8 @@ use lib.Dec.{ltb}
 use lib.ListN.{getD}
 use Rattle.rules.specs.Picture.{anyBelow}
 use Rattle.rules.proofs.Tests.{any-more}
-use Rattle.hysteresis.proofs.refusals.any_above.Statement.{statement}
-use Rattle.hysteresis.proofs.refusals.any_above.Tie as tie
+use Rattle.refusals.proofs.walk.any_above.Statement.{statement}
+use Rattle.refusals.proofs.walk.any_above.Tie as tie
 
 abbrev Inv-loop : tie.InvT-loop
 Inv-loop marks n above₀ i₀ above i = (i ≤ n) × (above ≡ anyBelow (λ q. ltb 3 (getD marks q 0)) i)

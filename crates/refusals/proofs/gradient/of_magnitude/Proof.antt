@@ -6,8 +6,8 @@ use borrow.Author.Needs.{needs}
 use borrow.Author.Tests.{lt-ltb, le-ltb, eq-eqb, ne-eqb}
 use Rattle.rules.specs.Refusals.{sideRow}
 use Rattle.rules.proofs.Rows.{side-off}
-use Rattle.suppression.proofs.of_magnitude.Statement.{statement}
-use Rattle.suppression.proofs.of_magnitude.Tie as tie
+use Rattle.refusals.proofs.gradient.of_magnitude.Statement.{statement}
+use Rattle.refusals.proofs.gradient.of_magnitude.Tie as tie
 
 -- no side is over the limit
 sides : (c : tie.Else1) → sideRow (c .before .before .before .args .size) .applies ≡ false

@@ -1,4 +1,4 @@
-// The refusal number of each call: the rows of 01's table whose subject it has, in ascending order.
+// The refusal numbers of the walk's three calls.
 use rules::ACCEPTED;
 use rules::MARK_FINISHED;
 use rules::MARK_WEAK;
@@ -86,7 +86,7 @@ fn unusable_state(marks: &[u8], stack: &[u32], pending: usize, size: Size) -> bo
     n < pending + count_weak(marks, n)
 }
 
-pub(crate) fn of_start(
+pub fn of_start(
     magnitudes: &[f32],
     size: Size,
     thresholds: Thresholds,
@@ -117,7 +117,7 @@ pub(crate) fn of_start(
     ACCEPTED
 }
 
-pub(crate) fn of_slice(marks: &[u8], stack: &[u32], pending: usize, size: Size, budget: usize) -> u8
+pub fn of_slice(marks: &[u8], stack: &[u32], pending: usize, size: Size, budget: usize) -> u8
     ensures { λ r. ⌜ r ≡ first (sliceRows size budget (state (now (marks .entry)) (now (stack .entry)) pending)) ⌝ }
 {
     if side_over(size) {
@@ -139,7 +139,7 @@ pub(crate) fn of_slice(marks: &[u8], stack: &[u32], pending: usize, size: Size, 
     ACCEPTED
 }
 
-pub(crate) fn of_map(marks: &[u8], stack: &[u32], pending: usize, size: Size, out: &[u8]) -> u8
+pub fn of_map(marks: &[u8], stack: &[u32], pending: usize, size: Size, out: &[u8]) -> u8
     ensures { λ r. ⌜ r ≡ first (mapRows size (state (now (marks .entry)) (now (stack .entry)) pending) (now (out .entry))) ⌝ }
 {
     if side_over(size) {

@@ -8,8 +8,8 @@ use mathlib.Core.Logic.{⊎-elim}
 use Rattle.rules.specs.Picture.{tally}
 use Rattle.rules.specs.Walk.{count}
 use Rattle.rules.proofs.Tallies.{tally-yes, tally-no}
-use Rattle.hysteresis.proofs.refusals.count_weak.Statement.{statement}
-use Rattle.hysteresis.proofs.refusals.count_weak.Tie as tie
+use Rattle.refusals.proofs.walk.count_weak.Statement.{statement}
+use Rattle.refusals.proofs.walk.count_weak.Tie as tie
 
 abbrev Inv-loop : tie.InvT-loop
 Inv-loop marks n weak₀ i₀ weak i = (i ≤ n) × (weak ≤ i) × (weak ≡ count 1 marks i)

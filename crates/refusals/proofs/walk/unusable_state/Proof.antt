@@ -3,8 +3,8 @@ use borrow.Author.Needs.{needs}
 use borrow.Author.Tests.{lt-ltb, le-ltb}
 use mathlib.Core.Path.{sym, _∙_}
 use Rattle.rules.specs.Walk.{unusable}
-use Rattle.hysteresis.proofs.refusals.unusable_state.Statement.{statement}
-use Rattle.hysteresis.proofs.refusals.unusable_state.Tie as tie
+use Rattle.refusals.proofs.walk.unusable_state.Statement.{statement}
+use Rattle.refusals.proofs.walk.unusable_state.Tie as tie
 
 mul-n : tie.Need-mul-n
 mul-n c = search needs

@@ -1,0 +1,50 @@
+// The refusal numbers of gradient_magnitude and of non_maximum_suppression.
+use rules::ACCEPTED;
+use rules::REFUSED_INPUT;
+use rules::REFUSED_ROOM;
+use rules::REFUSED_SIDE;
+use rules::Size;
+use rules::table::side_over;
+ghost use mathlib.Core.Path.{_≡_};
+ghost use Rattle.rules.specs.Refusals.{first, magnitudeRows, suppressionRows};
+
+pub fn of_magnitude(gx: &[i16], gy: &[i16], size: Size, magnitude: &[f32]) -> u8
+    ensures { λ r. ⌜ r ≡ first (magnitudeRows size (now (gx .entry)) (now (gy .entry)) (now (magnitude .entry))) ⌝ }
+{
+    if side_over(size) {
+        return REFUSED_SIDE;
+    }
+    let n = size.width * size.height;
+    if gx.len() != n {
+        return REFUSED_INPUT;
+    }
+    if gy.len() != n {
+        return REFUSED_INPUT;
+    }
+    if magnitude.len() < n {
+        return REFUSED_ROOM;
+    }
+    ACCEPTED
+}
+
+pub fn of_suppression(magnitude: &[f32], gx: &[i16], gy: &[i16], size: Size, out: &[f32]) -> u8
+    ensures { λ r. ⌜ r ≡ first (suppressionRows size (now (magnitude .entry)) (now (gx .entry)) (now (gy .entry)) (now (out .entry))) ⌝ }
+{
+    if side_over(size) {
+        return REFUSED_SIDE;
+    }
+    let n = size.width * size.height;
+    if magnitude.len() != n {
+        return REFUSED_INPUT;
+    }
+    if gx.len() != n {
+        return REFUSED_INPUT;
+    }
+    if gy.len() != n {
+        return REFUSED_INPUT;
+    }
+    if out.len() < n {
+        return REFUSED_ROOM;
+    }
+    ACCEPTED
+}
