@@ -6,21 +6,10 @@ use lib.ListN.{length}
 use lib.IntN.{ℤ}
 use lib.Ieee.{Float}
 use Rattle.rules.specs.Picture.{area}
-use Rattle.rules.specs.Refusals.{first, magnitudeRows, suppressionRows}
+use Rattle.rules.specs.Refusals.{first, suppressionRows}
 use Rattle.rules.specs.declared.Size.{Size}
-use Rattle.rules.proofs.Rows.{Sides, off, side-off, input-off, room-off}
+use Rattle.rules.proofs.Rows.{off, side-off, input-off, room-off}
 use Rattle.suppression.specs.Lent.{Pictures}
-
-pub record Components (d : Size) (gx gy : List ℤ) (magnitude : List Float) : Type 0 where
-  pub sides : Sides d
-  pub long-x : length gx ≡ area d
-  pub long-y : length gy ≡ area d
-  pub room : area d ≤ length magnitude
-
-pub magnitude-fit : (d : Size) (gx gy : List ℤ) (m : List Float) → first (magnitudeRows d gx gy m) ≡ 0 → Components d gx gy m
-magnitude-fit d gx gy m e =
-    let p = off (magnitudeRows d gx gy m) tt e in
-    record { sides = side-off d (p .0); long-x = input-off d gx (p .1 .0); long-y = input-off d gy (p .1 .1 .0); room = room-off d m (p .1 .1 .1 .0) }
 
 pub suppression-fit : (d : Size) (m : List Float) (gx gy : List ℤ) (out : List Float) → first (suppressionRows d m gx gy out) ≡ 0
     → Pictures d m gx gy × (area d ≤ length out)

@@ -1,7 +1,4 @@
--- The laws behind this crate's proofs: components, a guessed root tested or mended, a pixel's neighbours.
-pub mod Components
-pub mod Bits
-pub mod Mending
-pub mod Testing
+-- The laws behind this crate's proofs: the sector's tests, and a pixel's neighbours.
+pub mod Sectors
 pub mod Neighbours
 pub mod Answers

@@ -1,34 +1,13 @@
--- What the private functions are lent and give back: the sizes that keep every index and every product inside.
-use Prim.Native.Nat.{ℕ, _+_, _-_, _*_, _^_, _<_, _≤_}
+-- What the private functions are lent: the sizes that keep every index inside.
+use Prim.Native.Nat.{ℕ, _+_, _<_, _≤_}
 use mathlib.Core.Path.{_≡_}
 use mathlib.Core.List.{List}
-use lib.ListN.{length, getD}
-use lib.IntN.{ℤ, natAbs}
-use lib.Ieee.{Float, nan, binary32, ofBits}
+use lib.ListN.{length}
+use lib.IntN.{ℤ}
+use lib.Ieee.{Float}
 use Rattle.rules.specs.Limits.{maxSide}
 use Rattle.rules.specs.Picture.{area}
-use Rattle.rules.specs.Root.{magnitudeOf}
 use Rattle.rules.specs.declared.Size.{Size}
-
--- the size of an i16
-pub record SizeOf (g : ℤ) (r : ℕ) : Type 0 where
-  pub is : r ≡ natAbs g
-  pub most : r ≤ 2 ^ 15
-
--- the bits of a magnitude: 1, which stands for what has none, is never told of
-pub record BitsOf (s b : ℕ) : Type 0 where
-  pub some : b ≡ 1 → ⊥
-  pub are : ofBits binary32 b ≡ magnitudeOf s
-
--- the first n entries are f's
-abbrev pub AllBelow : ℕ → (ℕ → Float) → List Float → Type 0
-AllBelow n f l = (i : ℕ) → i < n → getD l i nan ≡ f i
-
--- a number whose root has 24 binary digits, and a guess that has no more
-pub record Target (t g : ℕ) : Type 0 where
-  pub low : 2 ^ 46 ≤ t
-  pub high : t ≤ 2 ^ 48 - 2 ^ 32
-  pub most : g < 2 ^ 24
 
 -- the magnitudes and the components of one picture
 pub record Pictures (d : Size) (magnitude : List Float) (gx gy : List ℤ) : Type 0 where

@@ -7,7 +7,8 @@ use lib.IntN.{natAbs}
 use mir.Syntax.{w16}
 use mir.ValLaws.{toZ-ofZ}
 use borrow.Author.Needs.{needs}
-use Rattle.suppression.proofs.Components.{product-small, signs, both-zero, along-x, along-y, diagonal}
+use Rattle.magnitude.proofs.Components.{product-small}
+use Rattle.suppression.proofs.Sectors.{signs, both-zero, along-x, along-y, diagonal}
 use Rattle.suppression.proofs.sector.Statement.{statement}
 use Rattle.suppression.proofs.sector.Tie as tie
 

@@ -1,0 +1,34 @@
+-- `gradient_magnitude` meets its contract: refused, or every magnitude. Assumes nothing.
+use native.Mathlib.Omega.{arith}
+use mathlib.Core.Path.{sym, _∙_}
+use denote.Ref.{now}
+use borrow.Author.Needs.{needs}
+use Rattle.rules.specs.Calls.{gradientMagnitude}
+use Rattle.rules.proofs.Answers.{refused-is, accepted-is}
+use Rattle.magnitude.proofs.Answers.{Components, magnitude-fit}
+use Rattle.magnitude.proofs.gradient_magnitude.Statement.{statement}
+use Rattle.magnitude.proofs.gradient_magnitude.Tie as tie
+
+fit : (c : tie.Else1) → let a = c .before .before .before .before .args in Components (a .size) (now (a .gx)) (now (a .gy)) (now (a .magnitude))
+fit c = magnitude-fit _ _ _ _ (sym (c .before .of-magnitude .ensures) ∙ c .if1 .left)
+
+returns : tie.Need-returns
+unfolding gradientMagnitude
+returns c = refused-is _ _ (c .before .of-magnitude .ensures) _ (now (c .before .before .before .before .args .magnitude)) (c .if1 .taken)
+
+mul-magnitudes : tie.Need-mul-magnitudes
+mul-magnitudes c = omega (arith, fit (c .before) .sides .small)
+
+magnitudes-requires : tie.Need-magnitudes-requires
+magnitudes-requires c κs = let p = fit (c .before .before) in search needs
+
+returns-2 : tie.Need-returns-2
+unfolding gradientMagnitude
+returns-2 c =
+    let e = c .before .before .before .before .before in
+    accepted-is _ _ (e .before .of-magnitude .ensures) _ (now (e .before .before .before .before .args .magnitude)) _ (e .if1 .left) (c .before .before .magnitudes .ensures)
+
+pub gradient-magnitude-spec : {M : Type 1} → statement M
+gradient-magnitude-spec =
+    tie.close
+    (tie.spec (λ c κs. search needs) (λ c. search needs) returns mul-magnitudes magnitudes-requires (λ c. search needs) returns-2)

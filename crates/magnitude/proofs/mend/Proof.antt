@@ -1,0 +1,52 @@
+-- `mend` meets its contract: up until m is not too low, down until it is not too high; one number alone is neither. Assumes nothing.
+use borrow.Author.Needs.{needs}
+use native.Mathlib.Omega.{arith}
+use Prim.Native.Nat.{_+_, _-_, _*_, _^_, _<_, _≤_}
+use Rattle.magnitude.proofs.Mending.{square-fits, more-fits, some, less-reaches}
+use Rattle.rules.proofs.Roots.{near-only, near-is}
+use Rattle.magnitude.proofs.mend.Statement.{statement}
+use Rattle.magnitude.proofs.mend.Tie as tie
+
+abbrev Inv-loop : tie.InvT-loop
+Inv-loop t g m₀ m = m < 2 ^ 24
+
+abbrev μ-loop : tie.MeasureT-loop
+μ-loop t g m₀ m = 2 ^ 24 - m
+
+abbrev Inv-loop2 : tie.InvT-loop2
+Inv-loop2 t g m₀ m = (m < 2 ^ 24) × (t ≤ m * m + m)
+
+abbrev μ-loop2 : tie.MeasureT-loop2
+μ-loop2 t g m₀ m = m
+
+mul-loop : tie.Need-mul-loop Inv-loop μ-loop Inv-loop2 μ-loop2
+mul-loop c = omega (arith, square-fits (c .loop .m) (c .loop .inv))
+
+add-loop : tie.Need-add-loop Inv-loop μ-loop Inv-loop2 μ-loop2
+add-loop c = omega (arith, square-fits (c .loop .m) (c .loop .inv))
+
+loop-again : tie.Need-loop-again Inv-loop μ-loop Inv-loop2 μ-loop2
+loop-again c = more-fits (c .before .loop .m) (c .before .before .args .t) (c .before .loop .inv) (c .before .before .pre .high) (c .loop-test .taken)
+
+mul-loop2 : tie.Need-mul-loop2 Inv-loop μ-loop Inv-loop2 μ-loop2
+mul-loop2 c = omega (arith, square-fits (c .loop2 .m) (c .loop2 .inv .0))
+
+sub-m : tie.Need-sub-m Inv-loop μ-loop Inv-loop2 μ-loop2
+sub-m c = some (c .before .loop2 .m) _ (c .loop2-test .taken) (omega arith)
+
+loop2-less : tie.Need-loop2-less Inv-loop μ-loop Inv-loop2 μ-loop2
+loop2-less c = let h : 0 < c .before .loop2 .m = some (c .before .loop2 .m) _ (c .loop2-test .taken) (omega arith) in omega arith
+
+loop2-again : tie.Need-loop2-again Inv-loop μ-loop Inv-loop2 μ-loop2
+loop2-again c = (search needs, less-reaches (c .before .loop2 .m) (c .before .before .before .before .args .t) (omega arith) (c .loop2-test .taken))
+
+returns : tie.Need-returns Inv-loop μ-loop Inv-loop2 μ-loop2
+returns c =
+    let t = c .before .before .before .before .args .t in
+    near-only t _ _ (record { low = c .loop2-test .left; high = c .before .loop2 .inv .1 }) (near-is t (omega arith) (omega arith))
+
+pub mend-spec : {M : Type 1} → statement M
+mend-spec =
+    tie.close
+    (tie.spec Inv-loop μ-loop Inv-loop2 μ-loop2 (λ c. search needs) mul-loop add-loop (λ c. search needs) (λ c. search needs) loop-again
+    (λ c. search needs) (λ c. search needs) mul-loop2 sub-m loop2-less loop2-again returns)

@@ -1,0 +1,224 @@
+// The magnitude of a gradient: 0, the f32 nearest the root of S, or 255 (01.Gradient.4), for one S and for every pixel.
+use refusals::gradient::of_magnitude;
+use rules::ACCEPTED;
+use rules::Size;
+ghost use mathlib.Core.Path.{_≡_};
+ghost use mathlib.Core.Bool.{true};
+ghost use Prim.Native.Nat.{_+_, _*_, _^_, _<_, _≤_};
+ghost use lib.ListN.{length, drop};
+ghost use lib.Ieee.{binary32, ofBits};
+ghost use Rattle.rules.specs.Picture.{filled};
+ghost use Rattle.rules.specs.Gradient.{energy};
+ghost use Rattle.rules.specs.Root.{capS, Near, nearRoot, rootOf, magnitudeOf};
+ghost use Rattle.rules.specs.Calls.{magnitudeAt, gradientMagnitude};
+ghost use Rattle.magnitude.specs.Lent.{SizeOf, BitsOf, Target, AllBelow};
+
+// ---- components
+
+// The size of a component: the one place where its sign is taken off. -32,768 has one too. The sector needs it as well.
+pub fn size_of(g: i16) -> u32
+    ensures { λ r. ⌜ SizeOf g r ⌝ }
+{
+    let z = g as i32;
+    if z < 0 { (0 - z) as u32 } else { z as u32 }
+}
+
+// S, at most 2^31 on any two components.
+fn energy(gx: i16, gy: i16) -> u32
+    ensures { λ r. ⌜ r ≡ energy gx gy ⌝ }
+{
+    let a = size_of(gx);
+    let b = size_of(gy);
+    a * a + b * b
+}
+
+// ---- the root: guessed in floats, then tested or mended in whole numbers. Nothing is proved, or needed, of the guess.
+
+// From this S on the magnitude is 255.
+const CAP: u32 = 65025;
+
+// A float within 5 in 100 of the root of f, from its bits.
+fn first_guess(f: f32) -> f32 {
+    if f > 0.0 {
+        return f32::from_bits(f32::to_bits(f) / 2 % 1073741824 + 532487669);
+    }
+    1.0
+}
+
+// Tried on every s, this is the magnitude itself, so that the tests pass and mending finds nothing to do; no proof leans on it. Two of
+// Heron's steps, and a third from the rest of the square, worked out in two halves of the digits since one f32 cannot hold it.
+fn guess(s: u32) -> f32 {
+    let c = if s < CAP { s as u16 } else { 65025 };
+    let f = c as f32;
+    let a = first_guess(f);
+    let b = (a + f / a) * 0.5;
+    let y = (b + f / b) * 0.5;
+    let wide = y * 4097.0;
+    let high = wide - (wide - y);
+    let low = y - high;
+    let rest = f - high * high - 2.0 * high * low - low * low;
+    if s == 0 { 0.0 } else { y + rest / (y + y) }
+}
+
+// ---- a guess tested, with no branch
+
+// The bits of a float from +0 or -0 on. 1 for any other float: no magnitude has these bits.
+fn bits_of(y: f32) -> u32
+    ensures { λ r. ⌜ ((r ≡ 1 → ⊥) → ofBits binary32 r ≡ y) ⌝ }
+{
+    if 0.0 <= y { f32::to_bits(y) } else { 1 }
+}
+
+// Whether m is the whole number nearest the root of t * 2^32: whether m² + m reaches it, by less than 2m.
+fn is_near(t: u32, m: u32) -> bool
+    requires { ⌜ m < 2 ^ 24 ⌝ }
+    ensures { λ r. ⌜ (r ≡ true → Near (t * 2 ^ 32) m) ⌝ }
+{
+    let v = (m as u64) * ((m + 1) as u64);
+    let high = (v / 4294967296) as u32;
+    let low = (v % 4294967296) as u32;
+    (high == t) & (low < 2 * m)
+}
+
+// Whether b are the bits of the root of an s below the cap. 0x3f80_0000 are those of 1 and 0x4380_0000 those of 256; between them the
+// exponent tells by which power of 4 the s must be multiplied for its root to have 24 binary digits.
+fn are_root_bits(s: u32, b: u32) -> bool
+    ensures { λ r. ⌜ (r ≡ true → BitsOf s b) ⌝ }
+{
+    let t = s << (2 * (7 - (b / 8388608 + 1) % 8));
+    let near = is_near(t, b % 8388608 + 8388608);
+    (s < CAP) & (0x3f80_0000 <= b) & (b < 0x4380_0000) & near
+}
+
+// Whether b are the bits of the magnitude of s. 0x437f_0000 are those of 255.
+fn are_bits(s: u32, b: u32) -> bool
+    ensures { λ r. ⌜ (r ≡ true → BitsOf s b) ⌝ }
+{
+    ((s == 0) & (b == 0)) | ((CAP <= s) & (b == 0x437f_0000)) | are_root_bits(s, b)
+}
+
+// ---- a guess mended
+
+// 4^(i + 16).
+fn four_of(i: u32) -> u64
+    requires { ⌜ i < 8 ⌝ }
+    ensures { λ r. ⌜ r ≡ 4 ^ (i + 16) ⌝ }
+{
+    1u64 << (2 * i + 32)
+}
+
+// The 24 binary digits of a guess; 2^23 is 8,388,608.
+fn digits(y: f32) -> u64
+    ensures { λ r. ⌜ r < 2 ^ 24 ⌝ }
+{
+    if y > 0.0 {
+        return (f32::to_bits(y) % 8388608 + 8388608) as u64;
+    }
+    8388608
+}
+
+// The whole number nearest the root of t, from any start.
+fn mend(t: u64, g: u64) -> u64
+    requires { ⌜ Target t g ⌝ }
+    ensures { λ r. ⌜ r ≡ nearRoot t ⌝ }
+{
+    let mut m = g;
+    while m * m + m < t {
+        m += 1;
+    }
+    while t + m <= m * m {
+        m -= 1;
+    }
+    m
+}
+
+// The f32 nearest the root of s, from any guess.
+fn root_from(s: u32, y: f32) -> f32
+    requires { ⌜ (0 < s) × (s < capS) ⌝ }
+    ensures { λ r. ⌜ r ≡ rootOf s ⌝ }
+{
+    let k = 23 - (31 - u32::leading_zeros(s)) / 2;
+    let t = (s as u64) * four_of(k - 16);
+    let m = mend(t, digits(y));
+    f32::from_bits((150 - k) * 8388608 + ((m - 8388608) as u32))
+}
+
+// The magnitude of S: 0, the nearest root, or 255 (01.Gradient.4).
+pub fn magnitude_of(s: u32) -> f32
+    ensures { λ r. ⌜ r ≡ magnitudeOf s ⌝ }
+{
+    if s == 0 {
+        return 0.0;
+    }
+    if s < CAP {
+        return root_from(s, guess(s));
+    }
+    255.0
+}
+
+// ---- the whole picture
+
+// A guess for each of n entries. It promises nothing of them, so that the loop is free to be fast.
+fn guesses(gx: &[i16], gy: &[i16], n: usize, magnitude: &mut [f32])
+    requires { ⌜ (length (now gx) ≡ n) × (length (now gy) ≡ n) × (n ≤ length (now magnitude)) ⌝ }
+    ensures { λ _. ⌜ drop n (now (magnitude .exit)) ≡ drop n (now (magnitude .entry)) ⌝ }
+{
+    let mut i = 0;
+    while i < n {
+        magnitude[i] = guess(energy(gx[i], gy[i]));
+        i += 1;
+    }
+}
+
+// Whether each of n entries is the magnitude, as every guess should be. It looks at all of them, so that it looks at many at once.
+fn are_magnitudes(gx: &[i16], gy: &[i16], n: usize, magnitude: &[f32]) -> bool
+    requires { ⌜ (length (now gx) ≡ n) × (length (now gy) ≡ n) × (n ≤ length (now magnitude)) ⌝ }
+    ensures { λ r. ⌜ (r ≡ true → AllBelow n (magnitudeAt (now (gx .entry)) (now (gy .entry))) (now (magnitude .entry))) ⌝ }
+{
+    let mut all = true;
+    let mut i = 0;
+    while i < n {
+        all = all & are_bits(energy(gx[i], gy[i]), bits_of(magnitude[i]));
+        i += 1;
+    }
+    all
+}
+
+// The magnitudes of n entries, each mended by itself.
+fn one_by_one(gx: &[i16], gy: &[i16], n: usize, magnitude: &mut [f32])
+    requires { ⌜ (length (now gx) ≡ n) × (length (now gy) ≡ n) × (n ≤ length (now magnitude)) ⌝ }
+    ensures { λ _. ⌜ now (magnitude .exit) ≡ filled n (magnitudeAt (now (gx .entry)) (now (gy .entry))) (now (magnitude .entry)) ⌝ }
+{
+    let mut i = 0;
+    while i < n {
+        magnitude[i] = magnitude_of(energy(gx[i], gy[i]));
+        i += 1;
+    }
+}
+
+// The magnitudes of n entries: the guesses, if all are right.
+fn magnitudes(gx: &[i16], gy: &[i16], n: usize, magnitude: &mut [f32])
+    requires { ⌜ (length (now gx) ≡ n) × (length (now gy) ≡ n) × (n ≤ length (now magnitude)) ⌝ }
+    ensures { λ _. ⌜ now (magnitude .exit) ≡ filled n (magnitudeAt (now (gx .entry)) (now (gy .entry))) (now (magnitude .entry)) ⌝ }
+{
+    guesses(gx, gy, n, magnitude);
+    if are_magnitudes(gx, gy, n, magnitude) {
+        return;
+    }
+    one_by_one(gx, gy, n, magnitude);
+}
+
+// The magnitude at every pixel.
+pub fn gradient_magnitude(gx: &[i16], gy: &[i16], size: Size, magnitude: &mut [f32]) -> u8
+    ensures { λ r. ⌜
+        (r, now (magnitude .exit))
+        ≡ gradientMagnitude size (now (gx .entry)) (now (gy .entry)) (now (magnitude .entry))
+        ⌝ }
+{
+    let refusal = of_magnitude(gx, gy, size, magnitude);
+    if refusal != ACCEPTED {
+        return refusal;
+    }
+    magnitudes(gx, gy, size.width * size.height, magnitude);
+    ACCEPTED
+}
