@@ -16,7 +16,7 @@ use Rattle.rules.specs.declared.Counted.{Counted}
 use Rattle.rules.specs.declared.Coord.{Coord}
 use Rattle.rules.specs.declared.Coord.the-variants.{At, Nothing, Refused}
 use Rattle.rules.specs.Border.{coordSays}
-use Rattle.kelontsira.specs.Exports.{numbersOf, placed, startSays, sliceSays, mapSays, runSays}
+use Rattle.kelontsira.specs.Exports.{numbersOf, placed, startSays, sliceSays, mapSays, countSays, runSays}
 
 module _ {A : Type 0} (lent : A) where
   module _ (old : ℕ × (ℕ × ℕ)) (s : Started) (call : Started × A) (e : (s, lent) ≡ call) where
@@ -38,13 +38,9 @@ module _ {A : Type 0} (lent : A) where
     slice-told z = rw (← e, z)
 
   module _ (old : ℕ) (r : Counted) (call : Counted × A) (e : (r, lent) ≡ call) where
-    pub run-refused : (r .refusal ≡ 0 → ⊥) → (r .refusal, (old, lent)) ≡ runSays old call
+    pub run-told : (n k : ℕ) → (n, k) ≡ countSays old r → (n, (k, lent)) ≡ runSays old call
     unfolding runSays
-    run-refused n = rw (← e, ne-eqb _ _ n)
-
-    pub run-told : r .refusal ≡ 0 → (0, (r .count, lent)) ≡ runSays old call
-    unfolding runSays
-    run-told z = rw (← e, z)
+    run-told n k t = ap (λ (p : ℕ × ℕ). (p .0, (p .1, lent))) t ∙ ap (runSays old) e
 
   pub map-told : (m : Mapped) (call : Mapped × A) → (m, lent) ≡ call → (m .refusal, lent) ≡ mapSays call
   unfolding mapSays

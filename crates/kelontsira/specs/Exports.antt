@@ -71,5 +71,8 @@ unfoldable pub mapSays {ℓ} : {A : Type ℓ} → Mapped × A → ℕ × A
 mapSays (m, out) = (m .refusal, out)
 
 -- a whole run: the count, then the map and the scratch
+abbrev pub countSays : ℕ → Counted → ℕ × ℕ
+countSays old r = (r .refusal, accepted (r .refusal) (r .count) old)
+
 unfoldable pub runSays {ℓ} : {A : Type ℓ} → ℕ → Counted × A → ℕ × (ℕ × A)
-runSays old (r, lent) = (r .refusal, (accepted (r .refusal) (r .count) old, lent))
+runSays old (r, lent) = (countSays old r .0, (countSays old r .1, lent))

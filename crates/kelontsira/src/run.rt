@@ -1,12 +1,24 @@
 // The whole run for C.
 use canny::canny;
 use rules::ACCEPTED;
+use rules::Counted;
 use rules::Size;
 use rules::Thresholds;
 ghost use mathlib.Core.Path.{_≡_};
 ghost use Rattle.rules.specs.Run as Run;
 ghost use Rattle.canny.specs.Lent.{scratch};
-ghost use Rattle.kelontsira.specs.Exports.{sides, between, runSays};
+ghost use Rattle.kelontsira.specs.Exports.{sides, between, countSays, runSays};
+
+// The count through a lent number, which a refusal leaves.
+fn tell(counted: Counted, count: &mut usize) -> u8
+    ensures { λ r. ⌜ (r, now (count .exit)) ≡ countSays (now (count .entry)) counted ⌝ }
+{
+    if counted.refusal != ACCEPTED {
+        return counted.refusal;
+    }
+    *count = counted.count;
+    ACCEPTED
+}
 
 #[no_mangle]
 pub extern "C" fn kelontsira_canny(
@@ -42,9 +54,5 @@ pub extern "C" fn kelontsira_canny(
         stack,
         map,
     );
-    if counted.refusal != ACCEPTED {
-        return counted.refusal;
-    }
-    *count = counted.count;
-    ACCEPTED
+    tell(counted, count)
 }
