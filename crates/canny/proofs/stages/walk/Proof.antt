@@ -35,13 +35,13 @@ map-requires : tie.Need-map-requires
 map-requires c κs = search needs
 
 same-length : tie.Need-same-length
-same-length c = search needs
+same-length c = omega (arith, c .before .before .before .before .before .before .before .before .before .before .marks2 .given, c .before .before .before .before .before .before .before .before .before .before .before .before .before .before .before .before .before .before .marks .given)
 
 same-length-2 : tie.Need-same-length-2
-same-length-2 c = search needs
+same-length-2 c = omega (arith, c .before .before .before .before .before .before .before .before .stack2 .given, c .before .before .before .before .before .before .before .before .before .before .before .before .before .before .before .before .stack .given)
 
 same-length-3 : tie.Need-same-length-3
-same-length-3 c = search needs
+same-length-3 c = c .before .out .given
 
 returns : tie.Need-returns
 returns c =
