@@ -13,12 +13,6 @@ lent s =
     let a = s .args in
     scratch (now (a .work)) (now (a .magnitude)) (now (a .gx)) (now (a .gy)) (now (a .blurred)) (now (a .marks)) (now (a .stack))
 
-shortest-requires : tie.Need-shortest-requires
-shortest-requires c κs = search needs
-
-of-run-requires : tie.Need-of-run-requires
-of-run-requires c κs = search needs
-
 returns : tie.Need-returns
 returns c =
     let s = c .before .before .before .before .before .before .before .before .before .before .before in
@@ -67,17 +61,5 @@ returns-2 c =
 pub canny-spec : {M : Type 1} → statement M
 canny-spec =
     tie.close
-    (tie.spec
-    shortest-requires
-    of-run-requires
-    returns
-    run-requires
-    same-length
-    same-length-2
-    same-length-3
-    same-length-4
-    same-length-5
-    same-length-6
-    same-length-7
-    same-length-8
-    returns-2)
+    (tie.spec (λ c κs. search needs) (λ c κs. search needs) returns run-requires same-length same-length-2 same-length-3 same-length-4 same-length-5
+    same-length-6 same-length-7 same-length-8 returns-2)

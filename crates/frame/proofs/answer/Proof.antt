@@ -11,15 +11,6 @@ use native.Mathlib.Omega.{arith}
 use Rattle.frame.proofs.answer.Statement.{statement}
 use Rattle.frame.proofs.answer.Tie as tie
 
-breach-requires : tie.Need-breach-requires
-breach-requires c κs = search needs
-
-put-refused-requires : tie.Need-put-refused-requires
-put-refused-requires c κs = search needs
-
-same-length : tie.Need-same-length
-same-length c = search needs
-
 returns : tie.Need-returns
 returns c =
     let s = c .before .before .before .before .before .before .before .before in let file = now (s .args .file) in c .before .before .put-refused .ensures ∙ answer-by file (refusedText 11) (now (s .args .text)) (breached file (sym (c .before .before .before .before .before .breach .ensures) ∙ c .before .before .before .before .if1 .taken))
@@ -27,28 +18,13 @@ returns c =
 wide-requires : tie.Need-wide-requires
 wide-requires c κs = let s = c .before .before .before .before in let file = now (s .args .file) in let k = sym (c .before .breach .ensures) ∙ c .if1 .left in omega (arith, laid file k .header)
 
-put-refused-requires-2 : tie.Need-put-refused-requires-2
-put-refused-requires-2 c κs = search needs
-
-same-length-2 : tie.Need-same-length-2
-same-length-2 c = search needs
-
 returns-2 : tie.Need-returns-2
 returns-2 c =
     let s = c .before .before .before .before .before .before .before .before .before .before in let file = now (s .args .file) in let k = sym (c .before .before .before .before .before .before .before .breach .ensures) ∙ c .before .before .before .before .before .before .if1 .left in
     c .before .before .put-refused2 .ensures ∙ answer-by file (refusedText 3) (now (s .args .text)) (kept file k ∙ many-taps file (laid file k) (rw (c .before .before .before .before .before .wide .ensures .0) at (c .before .before .before .before .if2 .taken)))
 
-slice-aggregate-run-file : tie.Need-slice-aggregate-run-file
-slice-aggregate-run-file c = search needs
-
 run-file-requires : tie.Need-run-file-requires
 run-file-requires c κs = let s = c .before .before .before .before .before .before .before in let file = now (s .args .file) in let k = sym (c .before .before .before .before .breach .ensures) ∙ c .before .before .before .if1 .left in record { keeps = k; counted = c .before .before .wide .ensures .0; few = c .before .if2 .left; room = search needs }
-
-put-refused-requires-3 : tie.Need-put-refused-requires-3
-put-refused-requires-3 c κs = search needs
-
-same-length-3 : tie.Need-same-length-3
-same-length-3 c = search needs
 
 returns-3 : tie.Need-returns-3
 returns-3 c =
@@ -59,16 +35,10 @@ returns-3 c =
 size-of-requires : tie.Need-size-of-requires
 size-of-requires c κs = let s = c .before .before .before .before .before .before .before .before .before .before in let file = now (s .args .file) in let k = sym (c .before .before .before .before .before .before .before .breach .ensures) ∙ c .before .before .before .before .before .before .if1 .left in laid file k .header
 
-slice-aggregate-put-edges : tie.Need-slice-aggregate-put-edges
-slice-aggregate-put-edges c = search needs
-
 put-edges-requires : tie.Need-put-edges-requires
 put-edges-requires c κs =
     let s = c .before .before .before .before .before .before .before .before .before .before .before .before .before in let file = now (s .args .file) in let k = sym (c .before .before .before .before .before .before .before .before .before .before .breach .ensures) ∙ c .before .before .before .before .before .before .before .before .before .if1 .left in let r = c .before .before .before .before .before .run-file in
     rw (c .before .before .size-of .ensures) (small-run file _ _ (r .result) (laid file k .small) (r .ensures) (laid file k), omega (arith, laid file k .small, r .kept .1 .1 .0))
-
-same-length-4 : tie.Need-same-length-4
-same-length-4 c = search needs
 
 returns-4 : tie.Need-returns-4
 returns-4 c =
@@ -80,22 +50,6 @@ returns-4 c =
 pub answer-spec : {M : Type 1} → statement M
 answer-spec =
     tie.close
-    (tie.spec
-    breach-requires
-    put-refused-requires
-    same-length
-    returns
-    wide-requires
-    put-refused-requires-2
-    same-length-2
-    returns-2
-    slice-aggregate-run-file
-    run-file-requires
-    put-refused-requires-3
-    same-length-3
-    returns-3
-    size-of-requires
-    slice-aggregate-put-edges
-    put-edges-requires
-    same-length-4
-    returns-4)
+    (tie.spec (λ c κs. search needs) (λ c κs. search needs) (λ c. search needs) returns wide-requires (λ c κs. search needs) (λ c. search needs)
+    returns-2 (λ c. search needs) run-file-requires (λ c κs. search needs) (λ c. search needs) returns-3 size-of-requires (λ c. search needs)
+    put-edges-requires (λ c. search needs) returns-4)

@@ -20,18 +20,6 @@ abbrev μ-loop : tie.MeasureT-loop
 loop-holds : tie.Need-loop-holds Inv-loop μ-loop
 loop-holds c = (search needs, refl, fill-start _ _)
 
-shared-slice-read-if1 : tie.Need-shared-slice-read-if1 Inv-loop μ-loop
-shared-slice-read-if1 c = search needs
-
-slice-write-out : tie.Need-slice-write-out Inv-loop μ-loop
-slice-write-out c = search needs
-
-add-i : tie.Need-add-i Inv-loop μ-loop
-add-i c = search needs
-
-loop-less : tie.Need-loop-less Inv-loop μ-loop
-loop-less c = search needs
-
 loop-again : tie.Need-loop-again Inv-loop μ-loop
 loop-again c =
     let k = c .before .before .before .loop in
@@ -41,23 +29,11 @@ loop-again c =
       fill-more _ _ _ _ _ l (k .inv .2) (⊎-elim (λ w. simp (w .1, eq-eqb _ _ (w .0 .taken))) (λ w. simp (w .1, ne-eqb _ _ (w .0 .left))) (c .if1 .came)),
     )
 
-same-length : tie.Need-same-length Inv-loop μ-loop
-same-length c = search needs
-
 returns : tie.Need-returns Inv-loop μ-loop
 returns c = let e : c .before .loop .i ≡ c .before .before .args .n = omega arith in rw e at (c .before .loop .inv .2)
 
 pub fill-map-spec : {M : Type 1} → statement M
 fill-map-spec =
     tie.close
-    (tie.spec
-    Inv-loop
-    μ-loop
-    loop-holds
-    shared-slice-read-if1
-    slice-write-out
-    add-i
-    loop-less
-    loop-again
-    same-length
-    returns)
+    (tie.spec Inv-loop μ-loop loop-holds (λ c. search needs) (λ c. search needs) (λ c. search needs) (λ c. search needs) loop-again
+    (λ c. search needs) returns)

@@ -12,12 +12,6 @@ use Rattle.hysteresis.proofs.map.Tie as tie
 ok : (c : tie.Else1) → let a = c .before .before .before .before .before .before .args in Mappable (sidesOf (a .walk)) (state (a .marks .now) (a .stack .now) (a .walk .pending)) (a .out .now)
 ok c = mappable _ _ _ (sym (c .before .of-map .ensures) ∙ c .if1 .left)
 
-of-map-requires : tie.Need-of-map-requires
-of-map-requires c κs = search needs
-
-same-length : tie.Need-same-length
-same-length c = search needs
-
 returns : tie.Need-returns
 returns c = map-refused _ _ _ _ _ (c .before .of-map .ensures) (c .if1 .taken)
 
@@ -27,9 +21,6 @@ mul-fill-map c = omega (arith, ok (c .before .before) .small)
 fill-map-requires : tie.Need-fill-map-requires
 fill-map-requires c κs = (ok (c .before .before) .marks-long, ok (c .before .before) .out-long)
 
-same-length-2 : tie.Need-same-length-2
-same-length-2 c = search needs
-
 returns-2 : tie.Need-returns-2
 returns-2 c =
     let e = c .before .before .before .before .before in
@@ -38,11 +29,4 @@ returns-2 c =
 pub map-spec : {M : Type 1} → statement M
 map-spec =
     tie.close
-    (tie.spec
-    of-map-requires
-    same-length
-    returns
-    mul-fill-map
-    fill-map-requires
-    same-length-2
-    returns-2)
+    (tie.spec (λ c κs. search needs) (λ c. search needs) returns mul-fill-map fill-map-requires (λ c. search needs) returns-2)

@@ -5,26 +5,11 @@ use Rattle.hysteresis.proofs.Numbers.{slice-fit, slice-refused, slice-m
 use Rattle.hysteresis.proofs.slice.Statement.{statement}
 use Rattle.hysteresis.proofs.slice.Tie as tie
 
-of-slice-requires : tie.Need-of-slice-requires
-of-slice-requires c κs = search needs
-
-same-length : tie.Need-same-length
-same-length c = search needs
-
-same-length-2 : tie.Need-same-length-2
-same-length-2 c = search needs
-
 returns : tie.Need-returns
 returns c = slice-refused _ _ _ _ _ (c .before .of-slice .ensures) (c .if1 .taken)
 
 take-until-requires : tie.Need-take-until-requires
 take-until-requires c κs = slice-fit _ (c .before .before .before .before .before .before .before .before .args .budget) _ (sym (c .before .before .before .of-slice .ensures) ∙ c .before .before .if1 .left)
-
-same-length-3 : tie.Need-same-length-3
-same-length-3 c = search needs
-
-same-length-4 : tie.Need-same-length-4
-same-length-4 c = search needs
 
 returns-2 : tie.Need-returns-2
 returns-2 c =
@@ -35,12 +20,5 @@ returns-2 c =
 pub slice-spec : {M : Type 1} → statement M
 slice-spec =
     tie.close
-    (tie.spec
-    of-slice-requires
-    same-length
-    same-length-2
-    returns
-    take-until-requires
-    same-length-3
-    same-length-4
+    (tie.spec (λ c κs. search needs) (λ c. search needs) (λ c. search needs) returns take-until-requires (λ c. search needs) (λ c. search needs)
     returns-2)

@@ -10,15 +10,6 @@ use Rattle.hysteresis.proofs.start.Tie as tie
 ok : (c : tie.Else1) → let a = c .before .before .before .before .before .before .before .args in Startable (a .size) (a .thresholds) (a .magnitudes .now) (a .marks .now) (a .stack .now)
 ok c = startable _ _ _ _ _ (sym (c .before .of-start .ensures) ∙ c .if1 .left)
 
-of-start-requires : tie.Need-of-start-requires
-of-start-requires c κs = search needs
-
-same-length : tie.Need-same-length
-same-length c = search needs
-
-same-length-2 : tie.Need-same-length-2
-same-length-2 c = search needs
-
 returns : tie.Need-returns
 returns c = start-refused _ _ _ _ _ _ (c .before .of-start .ensures) (c .if1 .taken)
 
@@ -33,12 +24,6 @@ class-all-requires c κs =
     let o = ok (c .before .before .before .before .before .before .before) in
     (o .sides .small, omega (arith, o .long), o .marks-long, omega (arith, o .stack-long, c .before .before .before .before .clear .kept .0))
 
-same-length-3 : tie.Need-same-length-3
-same-length-3 c = search needs
-
-same-length-4 : tie.Need-same-length-4
-same-length-4 c = search needs
-
 returns-2 : tie.Need-returns-2
 returns-2 c =
     let r = c .before .before .before .before in
@@ -49,14 +34,5 @@ returns-2 c =
 pub start-spec : {M : Type 1} → statement M
 start-spec =
     tie.close
-    (tie.spec
-    of-start-requires
-    same-length
-    same-length-2
-    returns
-    mul-n
-    clear-requires
-    class-all-requires
-    same-length-3
-    same-length-4
-    returns-2)
+    (tie.spec (λ c κs. search needs) (λ c. search needs) (λ c. search needs) returns mul-n clear-requires class-all-requires (λ c. search needs)
+    (λ c. search needs) returns-2)

@@ -46,9 +46,6 @@ p6 c = let a = c .before .before .before .before .before .before .before .before
 p7 : (c : tie.Else7) → first (rows (c .before .before .before .before .before .before .before .before .before .before .before .before .before .before .before .before .before)) ≡ left (c .before .before .before .before .before .before .before .before .before .before .before .before .before .before .before .before .before) 7
 p7 c = let a = c .before .before .before .before .before .before .before .before .before .before .before .before .before .before .before .before .before .args in skip _ (rule 7 (ltb (a .room) (area (a .size)))) (drop 7 (rows (c .before .before .before .before .before .before .before .before .before .before .before .before .before .before .before .before .before))) (p6 (c .before .before)) (le-ltb _ _ (c .if7 .left))
 
-side-over-requires : tie.Need-side-over-requires
-side-over-requires c κs = search needs
-
 returns : tie.Need-returns
 returns c = let a = c .before .before .before .before .args in hit (sideRow (a .size)) (drop 1 (rows (c .before .before .before .before))) (sym (c .before .side-over .ensures) ∙ c .if1 .taken)
 
@@ -58,23 +55,11 @@ mul-if2 c = let e = c .before in let h = side-off (e .before .before .before .be
 returns-2 : tie.Need-returns-2
 returns-2 c = let a = c .before .before .before .before .before .before .args in hit (inputRow (a .size) (now (a .pixels))) (drop 2 (rows (c .before .before .before .before .before .before))) (ap not (ne-eqb _ _ (c .if2 .taken))) ∙ sym (p1 (c .before .before))
 
-bad-count-requires : tie.Need-bad-count-requires
-bad-count-requires c κs = search needs
-
 returns-3 : tie.Need-returns-3
 returns-3 c = let a = c .before .before .before .before .before .before .before .before .args in hit (countRow maxTaps (length (now (a .taps)))) (drop 3 (rows (c .before .before .before .before .before .before .before .before))) (sym (c .before .bad-count .ensures) ∙ c .if3 .taken) ∙ sym (p2 (c .before .before))
 
-bad-weight-requires : tie.Need-bad-weight-requires
-bad-weight-requires c κs = search needs
-
 returns-4 : tie.Need-returns-4
 returns-4 c = let a = c .before .before .before .before .before .before .before .before .before .before .args in hit (weightRow (now (a .taps))) (drop 4 (rows (c .before .before .before .before .before .before .before .before .before .before))) (sym (c .before .bad-weight .ensures) ∙ c .if4 .taken) ∙ sym (p3 (c .before .before))
-
-bad-threshold-requires : tie.Need-bad-threshold-requires
-bad-threshold-requires c κs = search needs
-
-bad-threshold-requires-2 : tie.Need-bad-threshold-requires-2
-bad-threshold-requires-2 c κs = search needs
 
 returns-5 : tie.Need-returns-5
 returns-5 c = let a = c .before .before .before .before .before .before .before .before .before .before .before .before .before .args in hit (thresholdRow (a .thresholds)) (drop 5 (rows (c .before .before .before .before .before .before .before .before .before .before .before .before .before))) (sym (ap₂ _||_ (c .before .before .bad-threshold .ensures) (c .before .bad-threshold2 .ensures)) ∙ c .if5 .taken) ∙ sym (p4 (c .before .before .before))
@@ -94,19 +79,5 @@ returns-8 c = sym (p7 c)
 pub of-run-spec : {M : Type 1} → statement M
 of-run-spec =
     tie.close
-    (tie.spec
-    side-over-requires
-    returns
-    mul-if2
-    returns-2
-    bad-count-requires
-    returns-3
-    bad-weight-requires
-    returns-4
-    bad-threshold-requires
-    bad-threshold-requires-2
-    returns-5
-    returns-6
-    mul-if7
-    returns-7
-    returns-8)
+    (tie.spec (λ c κs. search needs) returns mul-if2 returns-2 (λ c κs. search needs) returns-3 (λ c κs. search needs) returns-4
+    (λ c κs. search needs) (λ c κs. search needs) returns-5 returns-6 mul-if7 returns-7 returns-8)

@@ -5,27 +5,6 @@ use Prim.Native.Nat.{min}
 use Rattle.canny.proofs.refusals.shortest.Statement.{statement}
 use Rattle.canny.proofs.refusals.shortest.Tie as tie
 
-least-requires : tie.Need-least-requires
-least-requires c κs = search needs
-
-least-requires-2 : tie.Need-least-requires-2
-least-requires-2 c κs = search needs
-
-least-requires-3 : tie.Need-least-requires-3
-least-requires-3 c κs = search needs
-
-least-requires-4 : tie.Need-least-requires-4
-least-requires-4 c κs = search needs
-
-least-requires-5 : tie.Need-least-requires-5
-least-requires-5 c κs = search needs
-
-least-requires-6 : tie.Need-least-requires-6
-least-requires-6 c κs = search needs
-
-least-requires-7 : tie.Need-least-requires-7
-least-requires-7 c κs = search needs
-
 returns : tie.Need-returns
 returns c =
     let least1 = c .before .before .before .before .before .before .least .ensures in
@@ -38,12 +17,5 @@ returns c =
 pub shortest-spec : {M : Type 1} → statement M
 shortest-spec =
     tie.close
-    (tie.spec
-    least-requires
-    least-requires-2
-    least-requires-3
-    least-requires-4
-    least-requires-5
-    least-requires-6
-    least-requires-7
-    returns)
+    (tie.spec (λ c κs. search needs) (λ c κs. search needs) (λ c κs. search needs) (λ c κs. search needs) (λ c κs. search needs)
+    (λ c κs. search needs) (λ c κs. search needs) returns)

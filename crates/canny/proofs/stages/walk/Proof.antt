@@ -10,30 +10,6 @@ use Rattle.canny.proofs.Walking.{walked}
 use Rattle.canny.proofs.stages.walk.Statement.{statement}
 use Rattle.canny.proofs.stages.walk.Tie as tie
 
-mul-n : tie.Need-mul-n
-mul-n c = search needs
-
-sub-start : tie.Need-sub-start
-sub-start c = search needs
-
-part-start-start : tie.Need-part-start-start
-part-start-start c = search needs
-
-part-start-end : tie.Need-part-start-end
-part-start-end c = search needs
-
-start-requires : tie.Need-start-requires
-start-requires c κs = search needs
-
-add-slice : tie.Need-add-slice
-add-slice c = search needs
-
-slice-requires : tie.Need-slice-requires
-slice-requires c κs = search needs
-
-map-requires : tie.Need-map-requires
-map-requires c κs = search needs
-
 same-length : tie.Need-same-length
 same-length c = omega (arith, c .before .before .before .before .before .before .before .before .before .before .marks2 .given, c .before .before .before .before .before .before .before .before .before .before .before .before .before .before .before .before .before .before .marks .given)
 
@@ -55,16 +31,5 @@ returns c =
 pub walk-spec : {M : Type 1} → statement M
 walk-spec =
     tie.close
-    (tie.spec
-    mul-n
-    sub-start
-    part-start-start
-    part-start-end
-    start-requires
-    add-slice
-    slice-requires
-    map-requires
-    same-length
-    same-length-2
-    same-length-3
-    returns)
+    (tie.spec (λ c. search needs) (λ c. search needs) (λ c. search needs) (λ c. search needs) (λ c κs. search needs) (λ c. search needs)
+    (λ c κs. search needs) (λ c κs. search needs) same-length same-length-2 same-length-3 returns)

@@ -10,35 +10,11 @@ use Rattle.frame.proofs.layout.breach.Tie as tie
 returns : tie.Need-returns
 returns c = let s = c .before .before in let file = now (s .args .file) in short file (c .if1 .taken)
 
-wide-requires : tie.Need-wide-requires
-wide-requires c κs = search needs
-
 returns-2 : tie.Need-returns-2
 returns-2 c = let s = c .before .before .before .before in let file = now (s .args .file) in too-wide file (c .before .before .if1 .left) (rw (c .before .wide .ensures .0) at (c .if2 .taken))
 
-wide-requires-2 : tie.Need-wide-requires-2
-wide-requires-2 c κs = search needs
-
 returns-3 : tie.Need-returns-3
 returns-3 c = let s = c .before .before .before .before .before .before in let file = now (s .args .file) in too-high file (c .before .before .before .before .if1 .left) (rw (c .before .before .before .wide .ensures .0) at (c .before .before .if2 .left)) (rw (c .before .wide2 .ensures .0) at (c .if3 .taken))
-
-wide-requires-3 : tie.Need-wide-requires-3
-wide-requires-3 c κs = search needs
-
-wide-requires-4 : tie.Need-wide-requires-4
-wide-requires-4 c κs = search needs
-
-wide-requires-5 : tie.Need-wide-requires-5
-wide-requires-5 c κs = search needs
-
-wide-requires-6 : tie.Need-wide-requires-6
-wide-requires-6 c κs = search needs
-
-mul-result : tie.Need-mul-result
-mul-result c = search needs
-
-add-result : tie.Need-add-result
-add-result c = search needs
 
 mul-result-2 : tie.Need-mul-result-2
 mul-result-2 c = let h = mul-le-mul (c .before .before .before .before .before .before .if2 .left) (c .before .before .before .before .if3 .left) in omega arith
@@ -52,18 +28,5 @@ returns-4 c = let file = now (c .before .before .before .before .before .before 
 pub breach-spec : {M : Type 1} → statement M
 breach-spec =
     tie.close
-    (tie.spec
-    returns
-    wide-requires
-    returns-2
-    wide-requires-2
-    returns-3
-    wide-requires-3
-    wide-requires-4
-    wide-requires-5
-    wide-requires-6
-    mul-result
-    add-result
-    mul-result-2
-    add-result-2
-    returns-4)
+    (tie.spec returns (λ c κs. search needs) returns-2 (λ c κs. search needs) returns-3 (λ c κs. search needs) (λ c κs. search needs)
+    (λ c κs. search needs) (λ c κs. search needs) (λ c. search needs) (λ c. search needs) mul-result-2 add-result-2 returns-4)

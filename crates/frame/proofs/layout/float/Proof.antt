@@ -17,8 +17,5 @@ returns c = nan-pattern (c .before .args .bits) (nanBits-above binary32 (c .befo
 float-from-bits-result : tie.Need-float-from-bits-result
 float-from-bits-result c = is-true (ap not (nanBits-above binary32 (c .before .args .bits) ∙ le-ltb _ _ (c .if1 .left)))
 
-returns-2 : tie.Need-returns-2
-returns-2 c = search needs
-
 pub float-spec : {M : Type 1} → statement M
-float-spec = tie.close (tie.spec returns float-from-bits-result returns-2)
+float-spec = tie.close (tie.spec returns float-from-bits-result (λ c. search needs))

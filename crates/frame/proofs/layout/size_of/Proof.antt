@@ -3,14 +3,8 @@ use borrow.Author.Needs.{needs}
 use Rattle.frame.proofs.layout.size_of.Statement.{statement}
 use Rattle.frame.proofs.layout.size_of.Tie as tie
 
-wide-requires : tie.Need-wide-requires
-wide-requires c κs = search needs
-
-wide-requires-2 : tie.Need-wide-requires-2
-wide-requires-2 c κs = search needs
-
 returns : tie.Need-returns
 returns c = rw (c .before .wide .ensures .0, c .wide2 .ensures .0)
 
 pub size-of-spec : {M : Type 1} → statement M
-size-of-spec = tie.close (tie.spec wide-requires wide-requires-2 returns)
+size-of-spec = tie.close (tie.spec (λ c κs. search needs) (λ c κs. search needs) returns)

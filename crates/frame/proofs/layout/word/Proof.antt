@@ -5,35 +5,14 @@ use native.Mathlib.Omega.{arith}
 use Rattle.frame.proofs.layout.word.Statement.{statement}
 use Rattle.frame.proofs.layout.word.Tie as tie
 
-shared-slice-read-result : tie.Need-shared-slice-read-result
-shared-slice-read-result c = search needs
-
 cast-result : tie.Need-cast-result
 cast-result c = omega (arith, c .shared-slice-known .given (c .before .args .at))
-
-add-result : tie.Need-add-result
-add-result c = search needs
-
-shared-slice-read-result-2 : tie.Need-shared-slice-read-result-2
-shared-slice-read-result-2 c = search needs
 
 cast-result-2 : tie.Need-cast-result-2
 cast-result-2 c = omega (arith, c .shared-slice-known2 .given (c .before .before .args .at + 1))
 
-add-result-2 : tie.Need-add-result-2
-add-result-2 c = search needs
-
-shared-slice-read-result-3 : tie.Need-shared-slice-read-result-3
-shared-slice-read-result-3 c = search needs
-
 cast-result-3 : tie.Need-cast-result-3
 cast-result-3 c = omega (arith, c .shared-slice-known3 .given (c .before .before .before .args .at + 2))
-
-add-result-3 : tie.Need-add-result-3
-add-result-3 c = search needs
-
-shared-slice-read-result-4 : tie.Need-shared-slice-read-result-4
-shared-slice-read-result-4 c = search needs
 
 cast-result-4 : tie.Need-cast-result-4
 cast-result-4 c = omega (arith, c .shared-slice-known4 .given (c .before .before .before .before .args .at + 3))
@@ -56,28 +35,9 @@ mul-result-3 c = let s = c .before .before .before .before in omega (arith, c .b
 add-result-6 : tie.Need-add-result-6
 add-result-6 c = let s = c .before .before .before .before in omega (arith, c .before .before .before .shared-slice-known .given (s .args .at), c .before .before .shared-slice-known2 .given (s .args .at + 1), c .before .shared-slice-known3 .given (s .args .at + 2), c .shared-slice-known4 .given (s .args .at + 3))
 
-returns : tie.Need-returns
-returns c = search needs
-
 pub word-spec : {M : Type 1} → statement M
 word-spec =
     tie.close
-    (tie.spec
-    shared-slice-read-result
-    cast-result
-    add-result
-    shared-slice-read-result-2
-    cast-result-2
-    add-result-2
-    shared-slice-read-result-3
-    cast-result-3
-    add-result-3
-    shared-slice-read-result-4
-    cast-result-4
-    mul-result
-    add-result-4
-    mul-result-2
-    add-result-5
-    mul-result-3
-    add-result-6
-    returns)
+    (tie.spec (λ c. search needs) cast-result (λ c. search needs) (λ c. search needs) cast-result-2 (λ c. search needs) (λ c. search needs)
+    cast-result-3 (λ c. search needs) (λ c. search needs) cast-result-4 mul-result add-result-4 mul-result-2 add-result-5 mul-result-3 add-result-6
+    (λ c. search needs))

@@ -11,33 +11,6 @@ use native.Mathlib.Omega.{arith}
 use Rattle.frame.proofs.running.run.Statement.{statement}
 use Rattle.frame.proofs.running.run.Tie as tie
 
-slice-aggregate-canny : tie.Need-slice-aggregate-canny
-slice-aggregate-canny c = search needs
-
-slice-aggregate-canny-2 : tie.Need-slice-aggregate-canny-2
-slice-aggregate-canny-2 c = search needs
-
-slice-aggregate-canny-3 : tie.Need-slice-aggregate-canny-3
-slice-aggregate-canny-3 c = search needs
-
-slice-aggregate-canny-4 : tie.Need-slice-aggregate-canny-4
-slice-aggregate-canny-4 c = search needs
-
-slice-aggregate-canny-5 : tie.Need-slice-aggregate-canny-5
-slice-aggregate-canny-5 c = search needs
-
-slice-aggregate-canny-6 : tie.Need-slice-aggregate-canny-6
-slice-aggregate-canny-6 c = search needs
-
-slice-aggregate-canny-7 : tie.Need-slice-aggregate-canny-7
-slice-aggregate-canny-7 c = search needs
-
-canny-requires : tie.Need-canny-requires
-canny-requires c κs = search needs
-
-same-length : tie.Need-same-length
-same-length c = search needs
-
 returns : tie.Need-returns
 returns c =
     let s = c .before .before .before .before .before .before .before .before .before .before .before .before .before .before .before .before .before .before .before .before .before in
@@ -52,14 +25,5 @@ returns c =
 pub run-spec : {M : Type 1} → statement M
 run-spec =
     tie.close
-    (tie.spec
-    slice-aggregate-canny
-    slice-aggregate-canny-2
-    slice-aggregate-canny-3
-    slice-aggregate-canny-4
-    slice-aggregate-canny-5
-    slice-aggregate-canny-6
-    slice-aggregate-canny-7
-    canny-requires
-    same-length
-    returns)
+    (tie.spec (λ c. search needs) (λ c. search needs) (λ c. search needs) (λ c. search needs) (λ c. search needs) (λ c. search needs)
+    (λ c. search needs) (λ c κs. search needs) (λ c. search needs) returns)

@@ -9,17 +9,8 @@ use native.Mathlib.Omega.{arith}
 use Rattle.frame.proofs.running.run_file.Statement.{statement}
 use Rattle.frame.proofs.running.run_file.Tie as tie
 
-slice-aggregate-decode-taps : tie.Need-slice-aggregate-decode-taps
-slice-aggregate-decode-taps c = search needs
-
 decode-taps-requires : tie.Need-decode-taps-requires
 decode-taps-requires c κs = let s = c .before .before .before in let file = now (s .args .file) in let l = laid file (s .pre .keeps) in (omega (arith, l .offset, l .whole, s .pre .counted), s .pre .few)
-
-mul-at : tie.Need-mul-at
-mul-at c = search needs
-
-add-at : tie.Need-add-at
-add-at c = search needs
 
 sub-run : tie.Need-sub-run
 sub-run c = let s = c .before .before .before .before .before in let file = now (s .args .file) in let l = laid file (s .pre .keeps) in omega (arith, l .offset, l .whole, s .pre .counted)
@@ -27,14 +18,8 @@ sub-run c = let s = c .before .before .before .before .before in let file = now 
 part-run-start : tie.Need-part-run-start
 part-run-start c = let s = c .before .before .before .before .before in let file = now (s .args .file) in let l = laid file (s .pre .keeps) in omega (arith, l .offset, l .whole, s .pre .counted)
 
-part-run-end : tie.Need-part-run-end
-part-run-end c = search needs
-
 size-of-requires : tie.Need-size-of-requires
 size-of-requires c κs = let s = c .before .before .before .before .before .before in let file = now (s .args .file) in let l = laid file (s .pre .keeps) in l .header
-
-array-share-prefix-taps : tie.Need-array-share-prefix-taps
-array-share-prefix-taps c = search needs
 
 slice-aggregate-run : tie.Need-slice-aggregate-run
 slice-aggregate-run c = let t = c .before .before .before .before .decode-taps in sym (length-take-le (c .before .before .before .before .before .before .before .before .args .count) (t .last .1 .1 .0) (omega (arith, c .before .before .before .before .before .before .before .before .pre .few, t .kept .1 .1 .0)))
@@ -46,9 +31,6 @@ run-requires : tie.Need-run-requires
 run-requires c κs =
     let s = c .before .before .before .before .before .before .before .before .before .before in let file = now (s .args .file) in let l = laid file (s .pre .keeps) in record { small = rw (c .before .before .before .size-of .ensures) (l .small); room = s .pre .room }
 
-same-length : tie.Need-same-length
-same-length c = search needs
-
 returns : tie.Need-returns
 returns c =
     let s = c .before .before .before .before .before .before .before .before .before .before .before .before .before in let file = now (s .args .file) in let l = laid file (s .pre .keeps) in
@@ -59,18 +41,5 @@ returns c =
 pub run-file-spec : {M : Type 1} → statement M
 run-file-spec =
     tie.close
-    (tie.spec
-    slice-aggregate-decode-taps
-    decode-taps-requires
-    mul-at
-    add-at
-    sub-run
-    part-run-start
-    part-run-end
-    size-of-requires
-    array-share-prefix-taps
-    slice-aggregate-run
-    thresholds-of-requires
-    run-requires
-    same-length
-    returns)
+    (tie.spec (λ c. search needs) decode-taps-requires (λ c. search needs) (λ c. search needs) sub-run part-run-start (λ c. search needs)
+    size-of-requires (λ c. search needs) slice-aggregate-run thresholds-of-requires run-requires (λ c. search needs) returns)

@@ -5,26 +5,14 @@ use native.Mathlib.Omega.{arith}
 use Rattle.frame.proofs.text.edges_length.Statement.{statement}
 use Rattle.frame.proofs.text.edges_length.Tie as tie
 
-add-rows : tie.Need-add-rows
-add-rows c = search needs
-
 mul-rows : tie.Need-mul-rows
 mul-rows c = let s = c in let t = lengths (s .args .size) (s .args .count) (s .pre) in omega (arith, t .rows, t .width, t .height, t .counted)
-
-digits-requires : tie.Need-digits-requires
-digits-requires c κs = search needs
 
 add-result : tie.Need-add-result
 add-result c = let s = c .before in let t = lengths (s .args .size) (s .args .count) (s .pre) in omega (arith, t .rows, t .width, t .height, t .counted, c .digits .ensures)
 
-digits-requires-2 : tie.Need-digits-requires-2
-digits-requires-2 c κs = search needs
-
 add-result-2 : tie.Need-add-result-2
 add-result-2 c = let s = c .before .before in let t = lengths (s .args .size) (s .args .count) (s .pre) in omega (arith, t .rows, t .width, t .height, t .counted, c .before .digits .ensures, c .digits2 .ensures)
-
-digits-requires-3 : tie.Need-digits-requires-3
-digits-requires-3 c κs = search needs
 
 add-result-3 : tie.Need-add-result-3
 add-result-3 c = let s = c .before .before .before in let t = lengths (s .args .size) (s .args .count) (s .pre) in omega (arith, t .rows, t .width, t .height, t .counted, c .before .before .digits .ensures, c .before .digits2 .ensures, c .digits3 .ensures)
@@ -38,14 +26,5 @@ returns c = let s = c .before .before .before in omega (arith, length-edges (s .
 pub edges-length-spec : {M : Type 1} → statement M
 edges-length-spec =
     tie.close
-    (tie.spec
-    add-rows
-    mul-rows
-    digits-requires
-    add-result
-    digits-requires-2
-    add-result-2
-    digits-requires-3
-    add-result-3
-    add-result-4
-    returns)
+    (tie.spec (λ c. search needs) mul-rows (λ c κs. search needs) add-result (λ c κs. search needs) add-result-2 (λ c κs. search needs) add-result-3
+    add-result-4 returns)

@@ -9,32 +9,11 @@ use native.Mathlib.Omega.{arith}
 use Rattle.frame.proofs.text.put_edges.Statement.{statement}
 use Rattle.frame.proofs.text.put_edges.Tie as tie
 
-edges-length-requires : tie.Need-edges-length-requires
-edges-length-requires c κs = search needs
-
 returns : tie.Need-returns
 returns c =
     let a = c .before .before .before .before .args in
     unfit (edgesText (a .size) (a .count) ++ rowsText (a .size) (now (a .map))) (now (a .text))
     (omega (arith, length-append (edgesText (a .size) (a .count)) (rowsText (a .size) (now (a .map))), length-rows (a .size) (now (a .map)), c .before .edges-length .ensures, c .if1 .taken))
-
-put-head-requires : tie.Need-put-head-requires
-put-head-requires c κs = search needs
-
-sub-put-rows : tie.Need-sub-put-rows
-sub-put-rows c = search needs
-
-part-put-rows-start : tie.Need-part-put-rows-start
-part-put-rows-start c = search needs
-
-part-put-rows-end : tie.Need-part-put-rows-end
-part-put-rows-end c = search needs
-
-put-rows-requires : tie.Need-put-rows-requires
-put-rows-requires c κs = search needs
-
-same-length : tie.Need-same-length
-same-length c = search needs
 
 returns-2 : tie.Need-returns-2
 returns-2 c =
@@ -46,13 +25,5 @@ returns-2 c =
 pub put-edges-spec : {M : Type 1} → statement M
 put-edges-spec =
     tie.close
-    (tie.spec
-    edges-length-requires
-    returns
-    put-head-requires
-    sub-put-rows
-    part-put-rows-start
-    part-put-rows-end
-    put-rows-requires
-    same-length
-    returns-2)
+    (tie.spec (λ c κs. search needs) returns (λ c κs. search needs) (λ c. search needs) (λ c. search needs) (λ c. search needs) (λ c κs. search needs)
+    (λ c. search needs) returns-2)

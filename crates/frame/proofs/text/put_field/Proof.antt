@@ -7,18 +7,6 @@ use native.Mathlib.Omega.{arith}
 use Rattle.frame.proofs.text.put_field.Statement.{statement}
 use Rattle.frame.proofs.text.put_field.Tie as tie
 
-put-decimal-requires : tie.Need-put-decimal-requires
-put-decimal-requires c κs = search needs
-
-slice-write-text : tie.Need-slice-write-text
-slice-write-text c = search needs
-
-add-result : tie.Need-add-result
-add-result c = search needs
-
-same-length : tie.Need-same-length
-same-length c = search needs
-
 returns : tie.Need-returns
 returns c =
     let a = c .before .before .before .before .before .args in
@@ -26,5 +14,4 @@ returns c =
     (omega (arith, p .ensures .0), then-byte (decimal (a .n)) (now (a .text)) (p .last .0) (a .at) (p .result) (a .after) (p .ensures .1) (p .ensures .0))
 
 pub put-field-spec : {M : Type 1} → statement M
-put-field-spec =
-    tie.close (tie.spec put-decimal-requires slice-write-text add-result same-length returns)
+put-field-spec = tie.close (tie.spec (λ c κs. search needs) (λ c. search needs) (λ c. search needs) (λ c. search needs) returns)

@@ -11,9 +11,6 @@ use native.Mathlib.Omega.{arith}
 use Rattle.frame.proofs.text.put_head.Statement.{statement}
 use Rattle.frame.proofs.text.put_head.Tie as tie
 
-slice-aggregate-put-word : tie.Need-slice-aggregate-put-word
-slice-aggregate-put-word c = search needs
-
 put-word-requires : tie.Need-put-word-requires
 put-word-requires c κs = let s = c .before .before .before in omega (arith, length-edges (s .args .size) (s .args .count), s .pre)
 
@@ -25,9 +22,6 @@ put-field-requires-2 c κs = let s = c .before .before .before .before .before .
 
 put-field-requires-3 : tie.Need-put-field-requires-3
 put-field-requires-3 c κs = let s = c .before .before .before .before .before .before .before .before .before .before .before .before .before .before .before in omega (arith, length-edges (s .args .size) (s .args .count), s .pre, c .before .before .before .put-field2 .ensures .0, c .before .before .before .put-field2 .kept .0, c .before .before .before .before .before .before .before .put-field .ensures .0, c .before .before .before .before .before .before .before .put-field .kept .0, c .before .before .before .before .before .before .before .before .before .before .before .put-word .ensures .0, c .before .before .before .before .before .before .before .before .before .before .before .put-word .kept .0)
-
-same-length : tie.Need-same-length
-same-length c = search needs
 
 returns : tie.Need-returns
 returns c =
@@ -46,11 +40,4 @@ returns c =
 pub put-head-spec : {M : Type 1} → statement M
 put-head-spec =
     tie.close
-    (tie.spec
-    slice-aggregate-put-word
-    put-word-requires
-    put-field-requires
-    put-field-requires-2
-    put-field-requires-3
-    same-length
-    returns)
+    (tie.spec (λ c. search needs) put-word-requires put-field-requires put-field-requires-2 put-field-requires-3 (λ c. search needs) returns)

@@ -11,9 +11,6 @@ use native.Mathlib.Omega.{arith}
 use Rattle.frame.proofs.text.put_refused.Statement.{statement}
 use Rattle.frame.proofs.text.put_refused.Tie as tie
 
-digits-requires : tie.Need-digits-requires
-digits-requires c κs = search needs
-
 add-if1 : tie.Need-add-if1
 add-if1 c = let n = c .before .before .args .number in omega (arith, four-digits n (omega arith), c .digits .ensures)
 
@@ -21,18 +18,6 @@ returns : tie.Need-returns
 returns c =
     let a = c .before .before .before .args in
     unfit (refusedText (a .number)) (now (a .text)) (omega (arith, length-refused (a .number), c .before .digits .ensures, c .if1 .taken))
-
-slice-aggregate-put-word : tie.Need-slice-aggregate-put-word
-slice-aggregate-put-word c = search needs
-
-put-word-requires : tie.Need-put-word-requires
-put-word-requires c κs = search needs
-
-put-field-requires : tie.Need-put-field-requires
-put-field-requires c κs = search needs
-
-same-length : tie.Need-same-length
-same-length c = search needs
 
 returns-2 : tie.Need-returns-2
 returns-2 c =
@@ -47,12 +32,4 @@ returns-2 c =
 pub put-refused-spec : {M : Type 1} → statement M
 put-refused-spec =
     tie.close
-    (tie.spec
-    digits-requires
-    add-if1
-    returns
-    slice-aggregate-put-word
-    put-word-requires
-    put-field-requires
-    same-length
-    returns-2)
+    (tie.spec (λ c κs. search needs) add-if1 returns (λ c. search needs) (λ c κs. search needs) (λ c κs. search needs) (λ c. search needs) returns-2)

@@ -22,21 +22,6 @@ abbrev μ-loop : tie.MeasureT-loop
 loop-holds : tie.Need-loop-holds Inv-loop μ-loop
 loop-holds c = let s = c .before .before in filling-start (length (now (s .args .row))) (λ x. cond (ltb x (length (now (s .args .row)))) (pixelText (getD (now (s .args .row)) x 0)) newline) (now (s .args .text))
 
-shared-slice-read-character : tie.Need-shared-slice-read-character Inv-loop μ-loop
-shared-slice-read-character c = search needs
-
-character-requires : tie.Need-character-requires Inv-loop μ-loop
-character-requires c κs = search needs
-
-slice-write-text : tie.Need-slice-write-text Inv-loop μ-loop
-slice-write-text c = search needs
-
-add-x : tie.Need-add-x Inv-loop μ-loop
-add-x c = search needs
-
-loop-less : tie.Need-loop-less Inv-loop μ-loop
-loop-less c = search needs
-
 loop-again : tie.Need-loop-again Inv-loop μ-loop
 loop-again c =
     let l = c .before .before .before .loop in
@@ -44,9 +29,6 @@ loop-again c =
     let h = c .before .before .loop-test .taken in
     filling-more (length (now (s .args .row))) (l .x) (λ x. cond (ltb x (length (now (s .args .row)))) (pixelText (getD (now (s .args .row)) x 0)) newline) (now (s .args .text)) (l .text) _ (omega arith) h (l .inv)
     (c .character .ensures ∙ sym (ap (λ b. cond b (pixelText (getD (now (s .args .row)) (l .x) 0)) newline) (lt-ltb (l .x) (length (now (s .args .row))) h)))
-
-slice-write-text-2 : tie.Need-slice-write-text-2 Inv-loop μ-loop
-slice-write-text-2 c = search needs
 
 same-length : tie.Need-same-length Inv-loop μ-loop
 same-length c = simp length-set (omega arith)
@@ -64,16 +46,5 @@ returns c =
 pub put-row-spec : {M : Type 1} → statement M
 put-row-spec =
     tie.close
-    (tie.spec
-    Inv-loop
-    μ-loop
-    loop-holds
-    shared-slice-read-character
-    character-requires
-    slice-write-text
-    add-x
-    loop-less
-    loop-again
-    slice-write-text-2
-    same-length
-    returns)
+    (tie.spec Inv-loop μ-loop loop-holds (λ c. search needs) (λ c κs. search needs) (λ c. search needs) (λ c. search needs) (λ c. search needs)
+    loop-again (λ c. search needs) same-length returns)

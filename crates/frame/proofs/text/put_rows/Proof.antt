@@ -37,20 +37,8 @@ mul-at c = let s = c .before .before .before .before in let t = row-in-rows (s .
 add-end : tie.Need-add-end Inv-loop μ-loop
 add-end c = let s = c .before .before .before .before in let t = row-in-rows (s .args .size) (now (s .args .map)) (now (s .args .text)) (c .before .loop .y) (s .pre) (c .loop-test .taken) in omega (arith, t .target, t .few)
 
-sub-put-row : tie.Need-sub-put-row Inv-loop μ-loop
-sub-put-row c = search needs
-
-part-put-row-start : tie.Need-part-put-row-start Inv-loop μ-loop
-part-put-row-start c = search needs
-
 part-put-row-end : tie.Need-part-put-row-end Inv-loop μ-loop
 part-put-row-end c = let s = c .before .before .before .before in let t = row-in-rows (s .args .size) (now (s .args .map)) (now (s .args .text)) (c .before .loop .y) (s .pre) (c .loop-test .taken) in t .source
-
-sub-put-row-2 : tie.Need-sub-put-row-2 Inv-loop μ-loop
-sub-put-row-2 c = search needs
-
-part-put-row-start-2 : tie.Need-part-put-row-start-2 Inv-loop μ-loop
-part-put-row-start-2 c = search needs
 
 part-put-row-end-2 : tie.Need-part-put-row-end-2 Inv-loop μ-loop
 part-put-row-end-2 c = let s = c .before .before .before .before .before in let t = row-in-rows (s .args .size) (now (s .args .map)) (now (s .args .text)) (c .before .before .loop .y) (s .pre) (c .before .loop-test .taken) in omega (arith, t .target, s .pre .room, c .before .before .loop .inv .1 .same)
@@ -61,12 +49,6 @@ put-row-requires c κs =
     let a = part-length (now (s .args .map)) (y * w) (y * w + w) w refl (t .source) in
     let b = part-length (c .before .before .before .loop .text) (y * (w + 1)) (y * (w + 1) + (w + 1)) (w + 1) refl (omega (arith, t .target, s .pre .room, c .before .before .before .loop .inv .1 .same)) in
     omega (arith, a, b)
-
-add-y : tie.Need-add-y Inv-loop μ-loop
-add-y c = search needs
-
-loop-less : tie.Need-loop-less Inv-loop μ-loop
-loop-less c = search needs
 
 loop-again : tie.Need-loop-again Inv-loop μ-loop
 loop-again c =
@@ -87,24 +69,5 @@ returns c =
 pub put-rows-spec : {M : Type 1} → statement M
 put-rows-spec =
     tie.close
-    (tie.spec
-    Inv-loop
-    μ-loop
-    add-line
-    loop-holds
-    mul-from
-    add-to
-    mul-at
-    add-end
-    sub-put-row
-    part-put-row-start
-    part-put-row-end
-    sub-put-row-2
-    part-put-row-start-2
-    part-put-row-end-2
-    put-row-requires
-    add-y
-    loop-less
-    loop-again
-    same-length
-    returns)
+    (tie.spec Inv-loop μ-loop add-line loop-holds mul-from add-to mul-at add-end (λ c. search needs) (λ c. search needs) part-put-row-end
+    (λ c. search needs) (λ c. search needs) part-put-row-end-2 put-row-requires (λ c. search needs) (λ c. search needs) loop-again same-length returns)

@@ -19,20 +19,8 @@ loop-holds : tie.Need-loop-holds Inv-loop μ-loop
 unfolding classed
 loop-holds c = search needs
 
-mul-class-one : tie.Need-mul-class-one Inv-loop μ-loop
-mul-class-one c = search needs
-
-shared-slice-read-class-one : tie.Need-shared-slice-read-class-one Inv-loop μ-loop
-shared-slice-read-class-one c = search needs
-
 class-one-requires : tie.Need-class-one-requires Inv-loop μ-loop
 class-one-requires c κs = omega arith
-
-add-i : tie.Need-add-i Inv-loop μ-loop
-add-i c = search needs
-
-loop-less : tie.Need-loop-less Inv-loop μ-loop
-loop-less c = search needs
 
 loop-again : tie.Need-loop-again Inv-loop μ-loop
 loop-again c =
@@ -45,28 +33,11 @@ loop-again c =
       k .kept .1 .1 .1 .0 ∙ a .inv .4,
     )
 
-same-length : tie.Need-same-length Inv-loop μ-loop
-same-length c = search needs
-
-same-length-2 : tie.Need-same-length-2 Inv-loop μ-loop
-same-length-2 c = search needs
-
 returns : tie.Need-returns Inv-loop μ-loop
 returns c = let e : c .before .loop .i ≡ c .before .before .before .before .before .args .n = omega arith in rw e at (c .before .loop .inv .2)
 
 pub class-all-spec : {M : Type 1} → statement M
 class-all-spec =
     tie.close
-    (tie.spec
-    Inv-loop
-    μ-loop
-    loop-holds
-    mul-class-one
-    shared-slice-read-class-one
-    class-one-requires
-    add-i
-    loop-less
-    loop-again
-    same-length
-    same-length-2
-    returns)
+    (tie.spec Inv-loop μ-loop loop-holds (λ c. search needs) (λ c. search needs) class-one-requires (λ c. search needs) (λ c. search needs) loop-again
+    (λ c. search needs) (λ c. search needs) returns)

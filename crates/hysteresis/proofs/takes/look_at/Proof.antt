@@ -12,15 +12,6 @@ use Rattle.hysteresis.proofs.takes.look_at.Tie as tie
 room : (c : tie.Then1) → c .before .before .args .pending < length (c .before .before .args .stack .now)
 room c = c .before .before .pre .2 (c .if1 .taken)
 
-slice-read-if1 : tie.Need-slice-read-if1
-slice-read-if1 c = search needs
-
-slice-write-marks : tie.Need-slice-write-marks
-slice-write-marks c = search needs
-
-cast-stack : tie.Need-cast-stack
-cast-stack c = search needs
-
 mul-stack : tie.Need-mul-stack
 mul-stack c = let h = room c in search needs
 
@@ -29,12 +20,6 @@ slice-write-stack c = room c
 
 add-result : tie.Need-add-result
 add-result c = omega (arith, room c)
-
-same-length : tie.Need-same-length
-same-length c = search needs
-
-same-length-2 : tie.Need-same-length-2
-same-length-2 c = search needs
 
 returns : tie.Need-returns
 unfolding look
@@ -47,14 +32,5 @@ returns-2 c = simp (ne-eqb _ _ (c .if1 .left))
 pub look-at-spec : {M : Type 1} → statement M
 look-at-spec =
     tie.close
-    (tie.spec
-    slice-read-if1
-    slice-write-marks
-    cast-stack
-    mul-stack
-    slice-write-stack
-    add-result
-    same-length
-    same-length-2
-    returns
-    returns-2)
+    (tie.spec (λ c. search needs) (λ c. search needs) (λ c. search needs) mul-stack slice-write-stack add-result (λ c. search needs)
+    (λ c. search needs) returns returns-2)

@@ -45,23 +45,8 @@ fit-1 c = subst (Fit _) (sym (c .visit-row .ensures)) (fit-row _ _ _ _ (fit-0 (f
 fit-2 : (c : tie.After-visit-row2) → Fit (from-2 c .args .size) (state (c .visit-row2 .last .0) (c .visit-row2 .last .1 .0) (c .visit-row2 .result))
 fit-2 c = subst (Fit _) (sym (c .visit-row2 .ensures)) (fit-row _ _ _ _ (fit-1 (c .before .before .before .before .before .before .before)))
 
-sub-at : tie.Need-sub-at
-sub-at c = search needs
-
-mul-q : tie.Need-mul-q
-mul-q c = search needs
-
-slice-read-q : tie.Need-slice-read-q
-slice-read-q c = search needs
-
 cast-q : tie.Need-cast-q
 cast-q c = omega (arith, q-in (c .before .before .before), c .before .before .before .pre .1 .small)
-
-mul-stack : tie.Need-mul-stack
-mul-stack c = search needs
-
-slice-write-stack : tie.Need-slice-write-stack
-slice-write-stack c = search needs
 
 slice-write-marks : tie.Need-slice-write-marks
 slice-write-marks c = omega (arith, q-in (c .before .before .before), c .before .before .before .pre .1 .marks-long)
@@ -110,21 +95,5 @@ returns c =
 pub take-one-spec : {M : Type 1} → statement M
 take-one-spec =
     tie.close
-    (tie.spec
-    sub-at
-    mul-q
-    slice-read-q
-    cast-q
-    mul-stack
-    slice-write-stack
-    slice-write-marks
-    rem-x
-    div-y
-    visit-row-requires
-    add-visit-row
-    visit-row-requires-2
-    add-visit-row-2
-    visit-row-requires-3
-    same-length
-    same-length-2
-    returns)
+    (tie.spec (λ c. search needs) (λ c. search needs) (λ c. search needs) cast-q (λ c. search needs) (λ c. search needs) slice-write-marks rem-x div-y
+    visit-row-requires add-visit-row visit-row-requires-2 add-visit-row-2 visit-row-requires-3 same-length same-length-2 returns)

@@ -21,12 +21,6 @@ loop-holds c = (going-none _ _ _ (c .before .before .pre), refl, refl)
 take-one-requires : tie.Need-take-one-requires Inv-loop μ-loop
 take-one-requires c κs = (omega (arith, c .before .before .if1 .left), c .before .before .before .before .loop .inv .0 .fit)
 
-add-done : tie.Need-add-done Inv-loop μ-loop
-add-done c = search needs
-
-loop-less : tie.Need-loop-less Inv-loop μ-loop
-loop-less c = search needs
-
 loop-again : tie.Need-loop-again Inv-loop μ-loop
 loop-again c =
     let k = c .before .before .before .before .take-one in
@@ -58,17 +52,5 @@ returns-2 c = going-ended _ _ _ _ _ (c .before .before .loop .inv .0) (c .if1 .t
 pub take-until-spec : {M : Type 1} → statement M
 take-until-spec =
     tie.close
-    (tie.spec
-    Inv-loop
-    μ-loop
-    loop-holds
-    take-one-requires
-    add-done
-    loop-less
-    loop-again
-    same-length
-    same-length-2
-    returns
-    same-length-3
-    same-length-4
-    returns-2)
+    (tie.spec Inv-loop μ-loop loop-holds take-one-requires (λ c. search needs) (λ c. search needs) loop-again same-length same-length-2 returns
+    same-length-3 same-length-4 returns-2)

@@ -36,26 +36,10 @@ look-at-requires c κs =
     let f = c .before .before .before .before .before .before .before .before .before .before .before .pre in
     (omega (arith, f .marks-long), omega (arith, f .small), λ e. omega (arith, room-for _ _ f _ l e, f .stack-long))
 
-same-length : tie.Need-same-length
-same-length c = search needs
-
-same-length-2 : tie.Need-same-length-2
-same-length-2 c = search needs
-
 returns-5 : tie.Need-returns-5
 returns-5 c = c .before .before .before .before .look-at .ensures ∙ sym (visit-in _ _ _ _ (inn (c .before .before .before .before .before .before .before .before)))
 
 pub visit-at-spec : {M : Type 1} → statement M
 visit-at-spec =
     tie.close
-    (tie.spec
-    returns
-    returns-2
-    returns-3
-    returns-4
-    mul-look-at
-    add-look-at
-    look-at-requires
-    same-length
-    same-length-2
-    returns-5)
+    (tie.spec returns returns-2 returns-3 returns-4 mul-look-at add-look-at look-at-requires (λ c. search needs) (λ c. search needs) returns-5)

@@ -7,22 +7,10 @@ use Rattle.kelontsira.proofs.filtering.kelontsira_gaussian_blur.Tie as 
 returns : tie.Need-returns
 returns c = unknown _ _ _ (c .if1 .taken)
 
-mode-of-requires : tie.Need-mode-of-requires
-mode-of-requires c κs = search needs
-
-gaussian-blur-requires : tie.Need-gaussian-blur-requires
-gaussian-blur-requires c κs = search needs
-
-same-length : tie.Need-same-length
-same-length c = search needs
-
-same-length-2 : tie.Need-same-length-2
-same-length-2 c = search needs
-
 returns-2 : tie.Need-returns-2
 returns-2 c = known _ _ _ _ _ (c .before .before .before .before .before .before .before .before .if1 .left) (c .before .before .before .before .before .before .before .mode-of .ensures) (c .before .before .before .before .gaussian-blur .ensures)
 
 pub kelontsira-gaussian-blur-spec : {M : Type 1} → statement M
 kelontsira-gaussian-blur-spec =
     tie.close
-    (tie.spec returns mode-of-requires gaussian-blur-requires same-length same-length-2 returns-2)
+    (tie.spec returns (λ c κs. search needs) (λ c κs. search needs) (λ c. search needs) (λ c. search needs) returns-2)

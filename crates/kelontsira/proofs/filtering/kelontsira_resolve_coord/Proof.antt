@@ -8,21 +8,6 @@ use Rattle.kelontsira.proofs.filtering.kelontsira_resolve_coord.Tie as 
 returns : tie.Need-returns
 returns c = unknown _ _ _ (c .if1 .taken)
 
-mode-of-requires : tie.Need-mode-of-requires
-mode-of-requires c κs = search needs
-
-resolve-coord-requires : tie.Need-resolve-coord-requires
-resolve-coord-requires c κs = search needs
-
-enum-known-i : tie.Need-enum-known-i
-enum-known-i c = search needs
-
-enum-told : tie.Need-enum-told
-enum-told c = search needs
-
-enum-told-2 : tie.Need-enum-told-2
-enum-told-2 c = search needs
-
 returns-2 : tie.Need-returns-2
 returns-2 c =
     known _ _ _ _ _ (c .before .before .before .before .before .if1 .left) (c .before .before .before .before .mode-of .ensures) (at-told _ _ _ _ (case-of _ _ _ _ _ (c .before .before .before .before .before .before .fits .coord) (c .before .before .before .resolve-coord .ensures) (c .before .i .given .1)))
@@ -38,13 +23,5 @@ returns-4 c =
 pub kelontsira-resolve-coord-spec : {M : Type 1} → statement M
 kelontsira-resolve-coord-spec =
     tie.close
-    (tie.spec
-    returns
-    mode-of-requires
-    resolve-coord-requires
-    enum-known-i
-    enum-told
-    enum-told-2
-    returns-2
-    returns-3
+    (tie.spec returns (λ c κs. search needs) (λ c κs. search needs) (λ c. search needs) (λ c. search needs) (λ c. search needs) returns-2 returns-3
     returns-4)

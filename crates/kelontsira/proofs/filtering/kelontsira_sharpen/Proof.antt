@@ -7,18 +7,8 @@ use Rattle.kelontsira.proofs.filtering.kelontsira_sharpen.Tie as tie
 returns : tie.Need-returns
 returns c = unknown _ _ _ (c .if1 .taken)
 
-mode-of-requires : tie.Need-mode-of-requires
-mode-of-requires c κs = search needs
-
-apply-requires : tie.Need-apply-requires
-apply-requires c κs = search needs
-
-same-length : tie.Need-same-length
-same-length c = search needs
-
 returns-2 : tie.Need-returns-2
 returns-2 c = known _ _ _ _ _ (c .before .before .before .before .before .if1 .left) (c .before .before .before .before .mode-of .ensures) (c .before .before .apply .ensures)
 
 pub kelontsira-sharpen-spec : {M : Type 1} → statement M
-kelontsira-sharpen-spec =
-    tie.close (tie.spec returns mode-of-requires apply-requires same-length returns-2)
+kelontsira-sharpen-spec = tie.close (tie.spec returns (λ c κs. search needs) (λ c κs. search needs) (λ c. search needs) returns-2)

@@ -4,14 +4,8 @@ use Rattle.kelontsira.proofs.Lent.{map-told}
 use Rattle.kelontsira.proofs.walk.kelontsira_map.Statement.{statement}
 use Rattle.kelontsira.proofs.walk.kelontsira_map.Tie as tie
 
-map-requires : tie.Need-map-requires
-map-requires c κs = search needs
-
-same-length : tie.Need-same-length
-same-length c = search needs
-
 returns : tie.Need-returns
 returns c = map-told _ _ _ (c .before .before .map .ensures)
 
 pub kelontsira-map-spec : {M : Type 1} → statement M
-kelontsira-map-spec = tie.close (tie.spec map-requires same-length returns)
+kelontsira-map-spec = tie.close (tie.spec (λ c κs. search needs) (λ c. search needs) returns)

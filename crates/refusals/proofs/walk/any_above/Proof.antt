@@ -20,15 +20,6 @@ loop-holds : tie.Need-loop-holds Inv-loop μ-loop
 unfolding anyBelow
 loop-holds c = (search needs, refl)
 
-shared-slice-read-above : tie.Need-shared-slice-read-above Inv-loop μ-loop
-shared-slice-read-above c = search needs
-
-add-i : tie.Need-add-i Inv-loop μ-loop
-add-i c = search needs
-
-loop-less : tie.Need-loop-less Inv-loop μ-loop
-loop-less c = search needs
-
 loop-again : tie.Need-loop-again Inv-loop μ-loop
 loop-again c = (search needs, any-more _ _ _ _ (c .before .before .loop .inv .1) refl)
 
@@ -38,4 +29,4 @@ returns c = c .before .loop .inv .1 ∙ ap (anyBelow _) (omega arith)
 pub any-above-spec : {M : Type 1} → statement M
 any-above-spec =
     tie.close
-    (tie.spec Inv-loop μ-loop loop-holds shared-slice-read-above add-i loop-less loop-again returns)
+    (tie.spec Inv-loop μ-loop loop-holds (λ c. search needs) (λ c. search needs) (λ c. search needs) loop-again returns)

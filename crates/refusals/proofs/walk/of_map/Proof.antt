@@ -19,9 +19,6 @@ side c = sym (c .before .side-over .ensures) ∙ c .if1 .left
 small : (c : tie.Else1) → area (c .before .before .before .before .before .args .size) ≤ maxSide * maxSide
 small c = side-off _ (side c) .small
 
-side-over-requires : tie.Need-side-over-requires
-side-over-requires c κs = search needs
-
 returns : tie.Need-returns
 returns c = simp (sym (c .before .side-over .ensures) ∙ c .if1 .taken)
 
@@ -55,14 +52,4 @@ returns-7 c =
 pub of-map-spec : {M : Type 1} → statement M
 of-map-spec =
     tie.close
-    (tie.spec
-    side-over-requires
-    returns
-    mul-n
-    returns-2
-    returns-3
-    returns-4
-    unusable-state-requires
-    returns-5
-    returns-6
-    returns-7)
+    (tie.spec (λ c κs. search needs) returns mul-n returns-2 returns-3 returns-4 unusable-state-requires returns-5 returns-6 returns-7)

@@ -22,9 +22,6 @@ small c = side-off _ (side c) .small
 fine : (c : tie.Else3) → let t = c .before .before .before .before .before .before .before .before .before .before .args .thresholds in (badThreshold (t .low) || badThreshold (t .high)) ≡ false
 fine c = rw (c .before .before .bad-threshold .ensures, c .before .bad-threshold2 .ensures) at (c .if3 .left)
 
-side-over-requires : tie.Need-side-over-requires
-side-over-requires c κs = search needs
-
 returns : tie.Need-returns
 returns c = simp (sym (c .before .side-over .ensures) ∙ c .if1 .taken)
 
@@ -33,12 +30,6 @@ mul-n c = omega (arith, small (c .before))
 
 returns-2 : tie.Need-returns-2
 returns-2 c = simp (side (c .before .before), ne-eqb _ _ (c .if2 .taken))
-
-bad-threshold-requires : tie.Need-bad-threshold-requires
-bad-threshold-requires c κs = search needs
-
-bad-threshold-requires-2 : tie.Need-bad-threshold-requires-2
-bad-threshold-requires-2 c κs = search needs
 
 returns-3 : tie.Need-returns-3
 returns-3 c =
@@ -61,15 +52,5 @@ returns-7 c =
 pub of-start-spec : {M : Type 1} → statement M
 of-start-spec =
     tie.close
-    (tie.spec
-    side-over-requires
-    returns
-    mul-n
-    returns-2
-    bad-threshold-requires
-    bad-threshold-requires-2
-    returns-3
-    returns-4
-    returns-5
-    returns-6
+    (tie.spec (λ c κs. search needs) returns mul-n returns-2 (λ c κs. search needs) (λ c κs. search needs) returns-3 returns-4 returns-5 returns-6
     returns-7)

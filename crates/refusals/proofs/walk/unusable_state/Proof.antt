@@ -6,32 +6,17 @@ use Rattle.rules.specs.Walk.{unusable}
 use Rattle.refusals.proofs.walk.unusable_state.Statement.{statement}
 use Rattle.refusals.proofs.walk.unusable_state.Tie as tie
 
-mul-n : tie.Need-mul-n
-mul-n c = search needs
-
 returns : tie.Need-returns
 unfolding unusable
 returns c = simp (lt-ltb _ _ (c .if1 .taken))
-
-any-beyond-requires : tie.Need-any-beyond-requires
-any-beyond-requires c κs = search needs
 
 returns-2 : tie.Need-returns-2
 unfolding unusable
 returns-2 c = simp (le-ltb _ _ (c .before .before .if1 .left), sym (c .before .any-beyond .ensures) ∙ c .if2 .taken)
 
-any-above-requires : tie.Need-any-above-requires
-any-above-requires c κs = search needs
-
 returns-3 : tie.Need-returns-3
 unfolding unusable
 returns-3 c = simp (le-ltb _ _ (c .before .before .before .before .if1 .left), sym (c .before .before .before .any-beyond .ensures) ∙ c .before .before .if2 .left, sym (c .before .any-above .ensures) ∙ c .if3 .taken)
-
-count-weak-requires : tie.Need-count-weak-requires
-count-weak-requires c κs = search needs
-
-add-result : tie.Need-add-result
-add-result c = search needs
 
 returns-4 : tie.Need-returns-4
 unfolding unusable
@@ -41,13 +26,5 @@ returns-4 c =
 pub unusable-state-spec : {M : Type 1} → statement M
 unusable-state-spec =
     tie.close
-    (tie.spec
-    mul-n
-    returns
-    any-beyond-requires
-    returns-2
-    any-above-requires
-    returns-3
-    count-weak-requires
-    add-result
+    (tie.spec (λ c. search needs) returns (λ c κs. search needs) returns-2 (λ c κs. search needs) returns-3 (λ c κs. search needs) (λ c. search needs)
     returns-4)
