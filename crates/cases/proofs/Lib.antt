@@ -1,0 +1,2 @@
+-- How far below -1 a signed number reaches.
+pub mod Below
