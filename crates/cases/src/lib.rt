@@ -171,6 +171,17 @@ pub fn count(n: u32) -> usize
     n as usize
 }
 
+// The same as a length of something that has `most` entries.
+pub fn at_most(n: u32, most: usize) -> usize
+    ensures { λ r. ⌜ r ≤ most ⌝ }
+{
+    let n = n as usize;
+    if most < n {
+        return most;
+    }
+    n
+}
+
 // The float of a pattern.
 pub fn float(bits: u32) -> f32
     ensures { λ r. ⌜ r ≡ ofBits binary32 bits ⌝ }
