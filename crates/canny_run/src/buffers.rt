@@ -23,15 +23,15 @@ pub(crate) fn run(v: &[u32; 80]) {
 
 // Lends the first four.
 fn lend(v: &[u32; 80], pixels: &[u8], taps: &[f32]) {
+    let a = case::room(v, 1);
+    let b = case::room(v, 2);
+    let c = case::room(v, 3);
+    let d = case::room(v, 4);
     let poison = case::poison_of(v);
     let mut work = [poison.float; ROOM];
     let mut magnitude = [poison.float; ROOM];
     let mut gx = [poison.short; ROOM];
     let mut gy = [poison.short; ROOM];
-    let a = case::room(v, 1);
-    let b = case::room(v, 2);
-    let c = case::room(v, 3);
-    let d = case::room(v, 4);
     lend_others(
         v,
         pixels,
@@ -57,21 +57,23 @@ fn lend_others(
     gx: &mut [i16],
     gy: &mut [i16],
 ) {
+    let e = case::room(v, 5);
+    let f = case::room(v, 6);
+    let g = case::room(v, 7);
+    let h = case::room(v, 8);
+    let size = case::size(v);
+    let thresholds = case::thresholds(v);
     let poison = case::poison_of(v);
     let mut blurred = [poison.byte; ROOM];
     let mut marks = [poison.byte; ROOM];
     let mut stack = [poison.word; ROOM];
     let mut map = [poison.map; ROOM];
     let pending = stopped_walk(v, &mut marks, &mut stack);
-    let e = case::room(v, 5);
-    let f = case::room(v, 6);
-    let g = case::room(v, 7);
-    let h = case::room(v, 8);
     let got = canny::canny(
         pixels,
-        case::size(v),
+        size,
         taps,
-        case::thresholds(v),
+        thresholds,
         work,
         magnitude,
         gx,

@@ -6,6 +6,7 @@ use crate::kept::same_places;
 use cases::at_most;
 use cases::count;
 use cases::wide;
+use rules::Mapped;
 use rules::Sliced;
 use rules::Walk;
 
@@ -39,18 +40,23 @@ fn stack_of(case: &[u32; 80]) -> [u32; 5] {
 }
 
 fn map(case: &[u32; 80]) {
-    let marks = marks_of(case);
-    let stack = stack_of(case);
-    let mut out = [7u8; 5];
+    let walk = walk_of(case);
     let m = at_most(case[5], 5);
     let k = at_most(case[6], 5);
     let n = at_most(case[7], 5);
-    let asked = hysteresis::map(walk_of(case), &marks[0..m], &stack[0..k], &mut out[0..n]);
+    let marks = marks_of(case);
+    let stack = stack_of(case);
+    let mut out = [7u8; 5];
+    let asked = hysteresis::map(walk, &marks[0..m], &stack[0..k], &mut out[0..n]);
+    after_map(case, asked, &out);
+}
+
+fn after_map(case: &[u32; 80], asked: Mapped, out: &[u8; 5]) {
     report::number(b"", asked.refusal as u64, wide(case[9]));
     handed_back(case, asked.walk);
     report::yes(
         b"  output kept if refused",
-        (case[9] == 0) | entries_are(&out, 7),
+        (case[9] == 0) | entries_are(out, 7),
     );
 }
 
@@ -63,21 +69,18 @@ fn handed_back(case: &[u32; 80], back: Walk) {
 }
 
 fn slice(case: &[u32; 80]) {
-    let mut marks = marks_of(case);
-    let mut stack = stack_of(case);
+    let walk = walk_of(case);
+    let budget = count(case[4]);
     let m = at_most(case[5], 5);
     let k = at_most(case[6], 5);
-    let made = hysteresis::slice(
-        walk_of(case),
-        count(case[4]),
-        &mut marks[0..m],
-        &mut stack[0..k],
-    );
-    report::number(b"  slice of the same", made.refusal as u64, wide(case[8]));
+    let mut marks = marks_of(case);
+    let mut stack = stack_of(case);
+    let made = hysteresis::slice(walk, budget, &mut marks[0..m], &mut stack[0..k]);
     after_slice(case, made, &marks, &stack);
 }
 
 fn after_slice(case: &[u32; 80], made: Sliced, marks: &[u8; 5], stack: &[u32; 5]) {
+    report::number(b"  slice of the same", made.refusal as u64, wide(case[8]));
     report::number(b"  takes", made.takes as u64, wide(case[20]));
     if case[8] == 0 {
         report::number(b"  marks 3", finished(marks), wide(case[21]));
