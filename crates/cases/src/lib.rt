@@ -30,7 +30,7 @@ pub fn case(text: &[u8], at: &mut usize) -> [u32; 80]
     row(text, &mut place)
 }
 
-fn starts_remark(text: &[u8], at: usize) -> bool {
+pub fn starts_remark(text: &[u8], at: usize) -> bool {
     if at < text.len() {
         return text[at] == COMMENT;
     }
@@ -89,17 +89,23 @@ fn row(text: &[u8], at: &mut usize) -> [u32; 80]
     values
 }
 
-// The number after the space at `at`, which is then past it. At the end of a line it is 0, and `at` stays.
+// The number at `at`, or after the space there; `at` is then past it. At the end of a line it is 0, and `at` stays.
 pub fn number(text: &[u8], at: &mut usize) -> u32 {
-    let from = *at;
-    if from < text.len() {
-        if text[from] == SPACE {
-            let end = place_of(text, from + 1, SPACE, NEWLINE);
-            *at = end;
-            return token(text, from + 1, end);
+    let from = after_space(text, *at);
+    let end = place_of(text, from, SPACE, NEWLINE);
+    *at = end;
+    token(text, from, end)
+}
+
+fn after_space(text: &[u8], at: usize) -> usize
+    ensures { λ r. ⌜ at ≤ r ⌝ }
+{
+    if at < text.len() {
+        if text[at] == SPACE {
+            return at + 1;
         }
     }
-    0
+    at
 }
 
 fn token(text: &[u8], from: usize, end: usize) -> u32 {
