@@ -51,13 +51,24 @@ fn coordinate(low: u32, high: u32) -> i64 {
 }
 
 fn call(case: Case, pixels: &[u8], two: &[u32], three: &[u32], out: &mut [u8]) -> u8 {
-    if case.stage <= 4 {
-        return weighted(case, pixels, two, three, out);
-    }
-    let mut work = [LEFT_FLOAT; LIST];
     let stage = case.stage;
     match stage {
-        5 => kelontsira_box_blur(pixels, case.width, case.height, case.border, &mut work, out),
+        2 => kernel(case, pixels, two, out),
+        3 => separable(case, pixels, two, three, out),
+        4 => gaussian(case, pixels, two, out),
+        5 => boxed(case, pixels, out),
+        _ => unweighted(case, pixels, out),
+    }
+}
+
+fn boxed(case: Case, pixels: &[u8], out: &mut [u8]) -> u8 {
+    let mut work = [LEFT_FLOAT; LIST];
+    kelontsira_box_blur(pixels, case.width, case.height, case.border, &mut work, out)
+}
+
+fn unweighted(case: Case, pixels: &[u8], out: &mut [u8]) -> u8 {
+    let stage = case.stage;
+    match stage {
         6 => kelontsira_sharpen(pixels, case.width, case.height, case.border, out),
         7 => kelontsira_median(
             pixels,
@@ -68,16 +79,6 @@ fn call(case: Case, pixels: &[u8], two: &[u32], three: &[u32], out: &mut [u8]) -
             out,
         ),
         _ => kelontsira_sobel(pixels, case.width, case.height, case.border, out),
-    }
-}
-
-// The stages whose weights come with the case.
-fn weighted(case: Case, pixels: &[u8], two: &[u32], three: &[u32], out: &mut [u8]) -> u8 {
-    let stage = case.stage;
-    match stage {
-        2 => kernel(case, pixels, two, out),
-        3 => separable(case, pixels, two, three, out),
-        _ => gaussian(case, pixels, two, out),
     }
 }
 
