@@ -1,124 +1,75 @@
-// The lent buffers of a whole run, poisoned: one call over them, and what they hold after it.
+// A whole run over eight buffers full of poison, and what they hold after it. Accepted, the scratch is zero as far as the picture goes;
+// refused, all is poison. The buffers are lent in two steps, since a function is checked against all that it lends.
+use crate::case;
 use crate::lines::bytes;
+use crate::lines::edges_then;
 use crate::lines::floats;
 use crate::lines::shorts;
 use crate::lines::words;
+use cases::count;
+use cases::wide;
 use rules::Counted;
-use rules::Size;
 use rules::Thresholds;
-ghost use Prim.Native.Nat.{_≤_};
 
 pub(crate) const ROOM: usize = 1922;
 
-// What the buffers hold before the call.
-pub(crate) struct Poison {
-    pub(crate) float: f32,
-    pub(crate) short: i16,
-    pub(crate) byte: u8,
-    pub(crate) word: u32,
-    pub(crate) map: u8,
+pub(crate) fn run(v: &[u32; 80]) {
+    let pixels = case::pixels(v);
+    let n = case::pixel_count(v);
+    let taps = case::taps(v);
+    let m = case::tap_count(v);
+    lend(v, &pixels[0..n], &taps[0..m]);
 }
 
-pub(crate) fn first_poison() -> Poison {
-    Poison {
-        float: report::nan(),
-        short: -32768,
-        byte: 255,
-        word: 4294967295,
-        map: 7,
-    }
-}
-
-pub(crate) fn second_poison() -> Poison {
-    Poison {
-        float: report::infinity(),
-        short: 32767,
-        byte: 3,
-        word: 4294967295,
-        map: 255,
-    }
-}
-
-// How many entries each buffer has, and which one, counted from 0 in the call's order, has one fewer.
-pub(crate) struct Lent {
-    pub(crate) length: usize,
-    pub(crate) fewer: usize,
-}
-
-pub(crate) const NO_BUFFER: usize = 8;
-
-// The length of the part that is lent of a buffer of `whole` entries.
-fn room(lent: Lent, which: usize, whole: usize) -> usize
-    ensures { λ r. ⌜ r ≤ whole ⌝ }
-{
-    if whole < lent.length {
-        return whole;
-    }
-    if 0 < lent.length {
-        if lent.fewer == which {
-            return lent.length - 1;
-        }
-    }
-    lent.length
-}
-
-// One call over the lent parts of the buffers: this lends the first four, the next the others.
-pub(crate) fn lend(
-    pixels: &[u8],
-    size: Size,
-    taps: &[f32],
-    thresholds: Thresholds,
-    lent: Lent,
-    work: &mut [f32],
-    magnitude: &mut [f32],
-    gx: &mut [i16],
-    gy: &mut [i16],
-    blurred: &mut [u8],
-    marks: &mut [u8],
-    stack: &mut [u32],
-    map: &mut [u8],
-) -> Counted {
-    let a = room(lent, 0, work.len());
-    let b = room(lent, 1, magnitude.len());
-    let c = room(lent, 2, gx.len());
-    let d = room(lent, 3, gy.len());
+// Lends the first four.
+fn lend(v: &[u32; 80], pixels: &[u8], taps: &[f32]) {
+    let a = case::room(v, 1);
+    let b = case::room(v, 2);
+    let c = case::room(v, 3);
+    let d = case::room(v, 4);
+    let poison = case::poison_of(v);
+    let mut work = [poison.float; ROOM];
+    let mut magnitude = [poison.float; ROOM];
+    let mut gx = [poison.short; ROOM];
+    let mut gy = [poison.short; ROOM];
     lend_others(
+        v,
         pixels,
-        size,
         taps,
-        thresholds,
-        lent,
         &mut work[0..a],
         &mut magnitude[0..b],
         &mut gx[0..c],
         &mut gy[0..d],
-        blurred,
-        marks,
-        stack,
-        map,
-    )
+    );
+    let n = count(v[case::ZEROED]);
+    report::yes(b"  work", floats(&work, n, poison.float));
+    report::yes(b"  magnitude", floats(&magnitude, n, poison.float));
+    report::yes(b"  gx", shorts(&gx, n, poison.short));
+    report::yes(b"  gy", shorts(&gy, n, poison.short));
 }
 
 fn lend_others(
+    v: &[u32; 80],
     pixels: &[u8],
-    size: Size,
     taps: &[f32],
-    thresholds: Thresholds,
-    lent: Lent,
     work: &mut [f32],
     magnitude: &mut [f32],
     gx: &mut [i16],
     gy: &mut [i16],
-    blurred: &mut [u8],
-    marks: &mut [u8],
-    stack: &mut [u32],
-    map: &mut [u8],
-) -> Counted {
-    let e = room(lent, 4, blurred.len());
-    let f = room(lent, 5, marks.len());
-    let g = room(lent, 6, stack.len());
-    let h = room(lent, 7, map.len());
-    canny::canny(
+) {
+    let e = case::room(v, 5);
+    let f = case::room(v, 6);
+    let g = case::room(v, 7);
+    let h = case::room(v, 8);
+    let size = case::size(v);
+    let thresholds = case::thresholds(v);
+    let poison = case::poison_of(v);
+    let mut blurred = [poison.byte; ROOM];
+    let mut marks = [poison.byte; ROOM];
+    let mut stack = [poison.word; ROOM];
+    let mut map = [poison.map; ROOM];
+    let pending = stopped_walk(v, &mut marks, &mut stack);
+    let got = canny::canny(
         pixels,
         size,
         taps,
@@ -131,82 +82,65 @@ fn lend_others(
         &mut marks[0..f],
         &mut stack[0..g],
         &mut map[0..h],
-    )
+    );
+    counted(v, got, pending);
+    left(v, &blurred, &marks, &stack, &map);
 }
 
-// The seven scratch buffers: zero in the first n entries, poison past them.
-pub(crate) fn scratch(
-    n: usize,
-    poison: Poison,
-    work: &[f32],
-    magnitude: &[f32],
-    gx: &[i16],
-    gy: &[i16],
-    blurred: &[u8],
-    marks: &[u8],
-    stack: &[u32],
+// Leaves a walk of 48 strong pixels stopped after one, if the case wants one; how many are pending.
+fn stopped_walk(v: &[u32; 80], marks: &mut [u8], stack: &mut [u32]) -> usize {
+    if v[case::PENDING] == 0 {
+        return 0;
+    }
+    let thresholds = Thresholds {
+        low: 1.0,
+        high: 2.0,
+    };
+    let started = hysteresis::start(&[5.0; 48], case::size(v), thresholds, marks, stack);
+    hysteresis::slice(started.walk, 1, marks, stack)
+        .walk
+        .pending
+}
+
+fn counted(v: &[u32; 80], got: Counted, pending: usize) {
+    report::number(b"", got.refusal as u64, wide(v[case::REFUSAL]));
+    report::number(b"  count", got.count as u64, wide(v[case::COUNT]));
+    report::number(b"  pending before", pending as u64, wide(v[case::PENDING]));
+}
+
+fn left(
+    v: &[u32; 80],
+    blurred: &[u8; 1922],
+    marks: &[u8; 1922],
+    stack: &[u32; 1922],
+    map: &[u8; 1922],
 ) {
-    report::yes(b"  work", floats(work, n, poison.float));
-    report::yes(b"  magnitude", floats(magnitude, n, poison.float));
-    report::yes(b"  gx", shorts(gx, n, poison.short));
-    report::yes(b"  gy", shorts(gy, n, poison.short));
+    let poison = case::poison_of(v);
+    let n = count(v[case::ZEROED]);
     report::yes(b"  blurred", bytes(blurred, n, poison.byte));
     report::yes(b"  marks", bytes(marks, n, poison.byte));
     report::yes(b"  stack", words(stack, n, poison.word));
+    map_lines(v, map, poison.map);
 }
 
-// A run over buffers full of poison. Accepted, the first n entries of the scratch are zero; refused, n is 0 and all is poison. What the map
-// holds is handed back.
-pub(crate) fn call(
-    name: &[u8],
-    pixels: &[u8],
-    size: Size,
-    taps: &[f32],
-    thresholds: Thresholds,
-    poison: Poison,
-    lent: Lent,
-    n: usize,
-    wanted: Counted,
-) -> [u8; 1922] {
-    let mut work = [poison.float; 1922];
-    let mut magnitude = [poison.float; 1922];
-    let mut gx = [poison.short; 1922];
-    let mut gy = [poison.short; 1922];
-    let mut blurred = [poison.byte; 1922];
-    let mut marks = [poison.byte; 1922];
-    let mut stack = [poison.word; 1922];
-    let mut map = [poison.map; 1922];
-    let got = lend(
-        pixels,
-        size,
-        taps,
-        thresholds,
-        lent,
-        &mut work,
-        &mut magnitude,
-        &mut gx,
-        &mut gy,
-        &mut blurred,
-        &mut marks,
-        &mut stack,
-        &mut map,
+fn map_lines(v: &[u32; 80], map: &[u8], poison: u8) {
+    if map.len() < 48 {
+        return;
+    }
+    first_of_map(v, &map[0..48], poison);
+    let more = count(v[case::MORE_EDGES]);
+    report::yes(
+        b"  the map from there on",
+        edges_then(&map[48..], more, poison),
     );
-    counted(name, got, wanted);
-    scratch(
-        n,
-        poison,
-        &work,
-        &magnitude,
-        &gx,
-        &gy,
-        &blurred,
-        &marks,
-        &stack,
-    );
-    map
 }
 
-pub(crate) fn counted(name: &[u8], got: Counted, wanted: Counted) {
-    report::number(name, got.refusal as u64, wanted.refusal as u64);
-    report::number(b"  count", got.count as u64, wanted.count as u64);
+fn first_of_map(v: &[u32; 80], map: &[u8], poison: u8) {
+    if v[case::MAP_FOLLOWS] == 0 {
+        report::bytes(b"  map", map, &[poison; 48]);
+        return;
+    }
+    let mut wanted = [0u8; 48];
+    case::map(v, &mut wanted);
+    report::bytes(b"  map", map, &wanted);
 }

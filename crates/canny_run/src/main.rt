@@ -1,13 +1,32 @@
-// Runs whole runs over poisoned scratch, and every refusal. Each line has what was got and what is wanted; what is wanted stands here,
-// from 01.
+// Runs whole runs over poisoned scratch, and every refusal: the cases stand in the file stdin, one to a line, with what 01 wants of each.
+// Each line has what was got and what is wanted.
 mod buffers;
+mod case;
 mod lines;
-mod maps;
-mod refused;
-mod stopped;
+
+use libc::STDIN_FILENO;
+
+// More lines than the file has.
+const MOST_LINES: usize = 100;
 
 fn main() {
-    maps::run();
-    stopped::run();
-    refused::run();
+    let mut text = io::large_buffer();
+    let n = io::read_full(STDIN_FILENO, &mut text);
+    lines_of(&text[..n]);
+}
+
+fn lines_of(text: &[u8]) {
+    let mut at = 0;
+    let mut i = 0;
+    while i < MOST_LINES {
+        line(text, &mut at);
+        i += 1;
+    }
+}
+
+fn line(text: &[u8], at: &mut usize) {
+    let case = cases::case(text, at);
+    if case[0] != 0 {
+        buffers::run(&case);
+    }
 }

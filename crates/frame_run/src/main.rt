@@ -1,14 +1,39 @@
-// Runs the frame library on files that keep the layout and files that break it, and on the repository's frames. Each line has what was
-// got and what is wanted; what is wanted stands here or in frames/, from 01.
+// Runs the frame library on files that keep the layout and files that break it, and on the repository's frames. The cases stand in the file
+// stdin, one to a line; what is wanted of each, from 01, stands there and, text by text, in the file stdout or in frames/.
 mod building;
 mod files;
-mod layouts;
-mod printed;
-mod refused;
+mod texts;
+
+use libc::STDIN_FILENO;
+
+// More lines than the file has.
+const MOST_LINES: usize = 100;
 
 fn main() {
-    printed::run();
-    layouts::run();
-    refused::run();
+    let mut text = io::large_buffer();
+    let n = io::read_full(STDIN_FILENO, &mut text);
+    lines_of(&text[..n]);
     files::run();
+}
+
+fn lines_of(text: &[u8]) {
+    let mut at = 0;
+    let mut i = 0;
+    while i < MOST_LINES {
+        line(text, &mut at);
+        i += 1;
+    }
+}
+
+// A line's first number says what is looked at: 1 the text, 2 its length in a room, 3 how many shorter lengths break the layout.
+fn line(text: &[u8], at: &mut usize) {
+    let case = cases::case(text, at);
+    let file = building::file_of(&case);
+    let kind = case[0];
+    match kind {
+        1 => texts::printed(&case, &file),
+        2 => texts::in_room(&case, &file),
+        3 => texts::shorter(&case, &file),
+        _ => {}
+    }
 }

@@ -1,14 +1,54 @@
-// Runs the gradient stages on document 01's examples, extreme components, NaN and minus zero, every S and each refusal. Each line has
-// what was got and what was wanted; the wanted ones come from document 01.
-mod lines;
+// Runs the gradient stages on 01's examples, extreme components, NaN and minus zero, every S and each refusal: the cases stand in the file
+// stdin, one to a line, with what 01 wants of each. Each line has what was got and what is wanted.
+mod floats;
 mod magnitudes;
-mod refusals;
-mod sectors;
-mod suppressed;
+mod pictures;
+
+use cases::signed;
+use cases::wide;
+use libc::STDIN_FILENO;
+
+// More lines than the file has.
+const MOST_LINES: usize = 200;
 
 fn main() {
-    sectors::run();
-    magnitudes::run();
-    suppressed::run();
-    refusals::run();
+    let mut text = io::large_buffer();
+    let n = io::read_full(STDIN_FILENO, &mut text);
+    lines_of(&text[..n]);
+}
+
+fn lines_of(text: &[u8]) {
+    let mut at = 0;
+    let mut i = 0;
+    while i < MOST_LINES {
+        line(text, &mut at);
+        i += 1;
+    }
+}
+
+// A line's first number says what its case is of.
+fn line(text: &[u8], at: &mut usize) {
+    let case = cases::case(text, at);
+    let kind = case[0];
+    match kind {
+        1 => sector(case[1], case[2], case[3]),
+        2 => magnitude_of(case[1], case[2]),
+        3 => nearest_of_all(case[1]),
+        4 => pictures::magnitude(&case),
+        5 => pictures::suppression(&case),
+        _ => {}
+    }
+}
+
+fn sector(x: u32, y: u32, wanted: u32) {
+    let got = suppression::sector(signed(x), signed(y));
+    report::number(b"", got as u64, wide(wanted));
+}
+
+fn magnitude_of(s: u32, wanted: u32) {
+    report::float(b"", suppression::magnitude_of(s), wanted);
+}
+
+fn nearest_of_all(wanted: u32) {
+    report::number(b"", magnitudes::every(), wide(wanted));
 }

@@ -1,7 +1,6 @@
 // One case: its six numbers and its four lists, and the line that says whether it agrees.
 use crate::filters;
 use crate::gradients;
-use crate::reader;
 use crate::walks;
 
 // No list of the file is longer.
@@ -17,39 +16,40 @@ pub(crate) struct Case {
     pub(crate) q: u32,
 }
 
-// Reads a case whose first digit was read, and runs it.
-pub(crate) fn run(first: u32, text: &mut [u8], at: &mut usize, end: &mut usize) {
-    let case = numbers(first, text, at, end);
+// Reads the case at a place, and runs it.
+pub(crate) fn run(text: &[u8], from: usize) {
+    let mut at = from;
+    let case = numbers(text, &mut at);
     let mut one = [0u32; LIST];
     let mut two = [0u32; LIST];
     let mut three = [0u32; LIST];
     let mut wanted = [0u32; LIST];
-    let ones = reader::list(text, at, end, &mut one);
-    let twos = reader::list(text, at, end, &mut two);
-    let threes = reader::list(text, at, end, &mut three);
-    let wants = reader::list(text, at, end, &mut wanted);
+    let ones = cases::list(text, &mut at, &mut one);
+    let twos = cases::list(text, &mut at, &mut two);
+    let threes = cases::list(text, &mut at, &mut three);
+    let wants = cases::list(text, &mut at, &mut wanted);
     say(case);
     report::yes(
         b"",
         replay(
             case,
-            &one[..ones],
-            &two[..twos],
-            &three[..threes],
-            &wanted[..wants],
+            &one[0..ones],
+            &two[0..twos],
+            &three[0..threes],
+            &wanted[0..wants],
         ),
     );
 }
 
 // The six numbers of a case.
-fn numbers(first: u32, text: &mut [u8], at: &mut usize, end: &mut usize) -> Case {
+fn numbers(text: &[u8], at: &mut usize) -> Case {
     Case {
-        stage: reader::rest_of_number(first, text, at, end) as usize,
-        width: reader::number(text, at, end) as usize,
-        height: reader::number(text, at, end) as usize,
-        border: (reader::number(text, at, end) % 256) as u8,
-        p: reader::number(text, at, end),
-        q: reader::number(text, at, end),
+        stage: cases::number(text, at) as usize,
+        width: cases::number(text, at) as usize,
+        height: cases::number(text, at) as usize,
+        border: (cases::number(text, at) % 256) as u8,
+        p: cases::number(text, at),
+        q: cases::number(text, at),
     }
 }
 

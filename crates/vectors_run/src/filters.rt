@@ -18,9 +18,9 @@ pub(crate) fn replay(case: Case, one: &[u32], two: &[u32], three: &[u32], wanted
         return resolved(case, one, wanted);
     }
     let mut pixels = [0u8; LIST];
-    let n = lists::bytes(one, &mut pixels);
+    let n = cases::bytes(one, &mut pixels);
     let mut out = [LEFT; LIST];
-    let refusal = call(case, &pixels[..n], two, three, &mut out);
+    let refusal = call(case, &pixels[0..n], two, three, &mut out);
     (refusal == 0) & lists::bytes_are(&out, wanted)
 }
 
@@ -51,13 +51,24 @@ fn coordinate(low: u32, high: u32) -> i64 {
 }
 
 fn call(case: Case, pixels: &[u8], two: &[u32], three: &[u32], out: &mut [u8]) -> u8 {
-    if case.stage <= 4 {
-        return weighted(case, pixels, two, three, out);
-    }
-    let mut work = [LEFT_FLOAT; LIST];
     let stage = case.stage;
     match stage {
-        5 => kelontsira_box_blur(pixels, case.width, case.height, case.border, &mut work, out),
+        2 => kernel(case, pixels, two, out),
+        3 => separable(case, pixels, two, three, out),
+        4 => gaussian(case, pixels, two, out),
+        5 => boxed(case, pixels, out),
+        _ => unweighted(case, pixels, out),
+    }
+}
+
+fn boxed(case: Case, pixels: &[u8], out: &mut [u8]) -> u8 {
+    let mut work = [LEFT_FLOAT; LIST];
+    kelontsira_box_blur(pixels, case.width, case.height, case.border, &mut work, out)
+}
+
+fn unweighted(case: Case, pixels: &[u8], out: &mut [u8]) -> u8 {
+    let stage = case.stage;
+    match stage {
         6 => kelontsira_sharpen(pixels, case.width, case.height, case.border, out),
         7 => kelontsira_median(
             pixels,
@@ -71,45 +82,52 @@ fn call(case: Case, pixels: &[u8], two: &[u32], three: &[u32], out: &mut [u8]) -
     }
 }
 
-// The stages whose weights come with the case.
-fn weighted(case: Case, pixels: &[u8], two: &[u32], three: &[u32], out: &mut [u8]) -> u8 {
+fn kernel(case: Case, pixels: &[u8], weights: &[u32], out: &mut [u8]) -> u8 {
+    let mut across = [0.0f32; LIST];
+    let n = cases::floats(weights, &mut across);
+    kelontsira_apply_kernel(
+        pixels,
+        case.width,
+        case.height,
+        case.p as usize,
+        case.q as usize,
+        &across[0..n],
+        case.border,
+        out,
+    )
+}
+
+fn separable(case: Case, pixels: &[u8], two: &[u32], three: &[u32], out: &mut [u8]) -> u8 {
     let mut across = [0.0f32; LIST];
     let mut down = [0.0f32; LIST];
+    let n = cases::floats(two, &mut across);
+    let m = cases::floats(three, &mut down);
     let mut work = [LEFT_FLOAT; LIST];
-    let n = lists::floats(two, &mut across);
-    let m = lists::floats(three, &mut down);
-    let stage = case.stage;
-    match stage {
-        2 => kelontsira_apply_kernel(
-            pixels,
-            case.width,
-            case.height,
-            case.p as usize,
-            case.q as usize,
-            &across[..n],
-            case.border,
-            out,
-        ),
-        3 => kelontsira_apply_separable_kernel(
-            pixels,
-            case.width,
-            case.height,
-            n,
-            m,
-            &across[..n],
-            &down[..m],
-            case.border,
-            &mut work,
-            out,
-        ),
-        _ => kelontsira_gaussian_blur(
-            pixels,
-            case.width,
-            case.height,
-            &across[..n],
-            case.border,
-            &mut work,
-            out,
-        ),
-    }
+    kelontsira_apply_separable_kernel(
+        pixels,
+        case.width,
+        case.height,
+        n,
+        m,
+        &across[0..n],
+        &down[0..m],
+        case.border,
+        &mut work,
+        out,
+    )
+}
+
+fn gaussian(case: Case, pixels: &[u8], taps: &[u32], out: &mut [u8]) -> u8 {
+    let mut across = [0.0f32; LIST];
+    let n = cases::floats(taps, &mut across);
+    let mut work = [LEFT_FLOAT; LIST];
+    kelontsira_gaussian_blur(
+        pixels,
+        case.width,
+        case.height,
+        &across[0..n],
+        case.border,
+        &mut work,
+        out,
+    )
 }

@@ -22,32 +22,33 @@ pub(crate) fn replay(case: Case, one: &[u32], two: &[u32], three: &[u32], wanted
 // Wanted: all of gx, then all of gy.
 fn gradients(case: Case, one: &[u32], wanted: &[u32]) -> bool {
     let mut pixels = [0u8; LIST];
-    let n = lists::bytes(one, &mut pixels);
+    let n = cases::bytes(one, &mut pixels);
     if wanted.len() < n {
         return false;
     }
     let mut gx = [LEFT_NUMBER; LIST];
     let mut gy = [LEFT_NUMBER; LIST];
     let refusal = kelontsira_sobel_gradients(
-        &pixels[..n],
+        &pixels[0..n],
         case.width,
         case.height,
         case.border,
         &mut gx,
         &mut gy,
     );
-    (refusal == 0) & (lists::numbers_are(&gx, &wanted[..n]) & lists::numbers_are(&gy, &wanted[n..]))
+    (refusal == 0)
+        & (lists::numbers_are(&gx, &wanted[0..n]) & lists::numbers_are(&gy, &wanted[n..]))
 }
 
 fn magnitudes(case: Case, one: &[u32], two: &[u32], wanted: &[u32]) -> bool {
     let mut gx = [0i16; LIST];
     let mut gy = [0i16; LIST];
-    let n = lists::numbers(one, &mut gx);
-    let m = lists::numbers(two, &mut gy);
+    let n = cases::numbers(one, &mut gx);
+    let m = cases::numbers(two, &mut gy);
     let mut out = [LEFT_FLOAT; LIST];
     let refusal = kelontsira_gradient_magnitude(
-        &gx[..n],
-        &gy[..m],
+        &gx[0..n],
+        &gy[0..m],
         case.width,
         case.height,
         &mut out,
@@ -66,7 +67,7 @@ fn sectors(one: &[u32], two: &[u32], wanted: &[u32]) -> bool {
     let mut same = true;
     let mut i = 0;
     while i < n {
-        let sector = kelontsira_sector(lists::signed(one[i]), lists::signed(two[i]));
+        let sector = kelontsira_sector(cases::signed(one[i]), cases::signed(two[i]));
         same = same & (sector as u32 == wanted[i]);
         i += 1;
     }
@@ -77,14 +78,14 @@ fn suppressed(case: Case, one: &[u32], two: &[u32], three: &[u32], wanted: &[u32
     let mut magnitude = [0.0f32; LIST];
     let mut gx = [0i16; LIST];
     let mut gy = [0i16; LIST];
-    let n = lists::floats(one, &mut magnitude);
-    let m = lists::numbers(two, &mut gx);
-    let k = lists::numbers(three, &mut gy);
+    let n = cases::floats(one, &mut magnitude);
+    let m = cases::numbers(two, &mut gx);
+    let k = cases::numbers(three, &mut gy);
     let mut out = [LEFT_FLOAT; LIST];
     let refusal = kelontsira_non_maximum_suppression(
-        &magnitude[..n],
-        &gx[..m],
-        &gy[..k],
+        &magnitude[0..n],
+        &gx[0..m],
+        &gy[0..k],
         case.width,
         case.height,
         &mut out,

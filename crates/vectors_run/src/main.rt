@@ -4,34 +4,37 @@ mod case;
 mod filters;
 mod gradients;
 mod lists;
-mod reader;
 mod walks;
 
-use reader::END;
+use libc::STDIN_FILENO;
 
-// More lines than the file has.
+// More bytes and more lines than the file has.
+const ROOM: usize = 262144;
+
 const MOST_LINES: usize = 2000;
 
 fn main() {
-    let mut text = io::buffer();
+    let mut text = [0u8; ROOM];
+    let n = io::read_full(STDIN_FILENO, &mut text);
+    lines_of(&text[..n]);
+}
+
+fn lines_of(text: &[u8]) {
     let mut at = 0;
-    let mut end = 0;
     let mut i = 0;
     while i < MOST_LINES {
-        let first = reader::next(&mut text, &mut at, &mut end);
-        if first == END {
-            return;
-        }
-        line(first, &mut text, &mut at, &mut end);
+        at = line(text, at);
         i += 1;
     }
 }
 
-// The rest of a line whose first byte was read.
-fn line(first: u32, text: &mut [u8], at: &mut usize, end: &mut usize) {
-    if first == reader::COMMENT {
-        reader::skip_line(text, at, end);
-        return;
+// The place of the next line.
+fn line(text: &[u8], at: usize) -> usize {
+    let next = cases::next_line(text, at);
+    if at < next {
+        if !cases::starts_remark(text, at) {
+            case::run(text, at);
+        }
     }
-    case::run(first, text, at, end);
+    next
 }

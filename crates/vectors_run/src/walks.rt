@@ -5,7 +5,7 @@ use crate::lists;
 use crate::lists::LEFT;
 use crate::lists::LEFT_FLOAT;
 use crate::lists::LEFT_NUMBER;
-use frame::layout::float;
+use cases::float;
 ghost use Prim.Native.Nat.{_≤_};
 use kelontsira::run::kelontsira_canny;
 use kelontsira::walk::kelontsira_map;
@@ -24,7 +24,7 @@ const BUDGET: usize = 3;
 
 fn walked(case: Case, one: &[u32], wanted: &[u32]) -> bool {
     let mut magnitudes = [0.0f32; LIST];
-    let n = lists::floats(one, &mut magnitudes);
+    let n = cases::floats(one, &mut magnitudes);
     let mut marks = [LEFT; LIST];
     let mut stack = [0u32; LIST];
     let mut out = [LEFT; LIST];
@@ -32,7 +32,7 @@ fn walked(case: Case, one: &[u32], wanted: &[u32]) -> bool {
     let mut tall = 0;
     let mut pending = 0;
     let started = kelontsira_start(
-        &magnitudes[..n],
+        &magnitudes[0..n],
         case.width,
         case.height,
         float(case.p),
@@ -73,8 +73,8 @@ fn slices(
 fn whole(case: Case, one: &[u32], two: &[u32], wanted: &[u32]) -> bool {
     let mut pixels = [0u8; LIST];
     let mut taps = [0.0f32; LIST];
-    let n = lists::bytes(one, &mut pixels);
-    let m = lists::floats(two, &mut taps);
+    let n = cases::bytes(one, &mut pixels);
+    let m = cases::floats(two, &mut taps);
     let mut work = [LEFT_FLOAT; LIST];
     let mut magnitude = [LEFT_FLOAT; LIST];
     let mut gx = [LEFT_NUMBER; LIST];
@@ -85,10 +85,10 @@ fn whole(case: Case, one: &[u32], two: &[u32], wanted: &[u32]) -> bool {
     let mut out = [LEFT; LIST];
     let mut count = 0;
     let refusal = kelontsira_canny(
-        &pixels[..n],
+        &pixels[0..n],
         case.width,
         case.height,
-        &taps[..m],
+        &taps[0..m],
         float(case.p),
         float(case.q),
         &mut work,

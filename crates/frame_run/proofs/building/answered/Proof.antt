@@ -10,17 +10,8 @@ use native.Mathlib.Omega.{arith}
 use Rattle.frame_run.proofs.building.answered.Statement.{statement}
 use Rattle.frame_run.proofs.building.answered.Tie as tie
 
-returns : tie.Need-returns
-returns c = search needs
-
 slice-aggregate-answer : tie.Need-slice-aggregate-answer
 slice-aggregate-answer c = let a = c .before .before .before .before .args in sym (length-take-le (a .n) (now (a .file)) (c .before .if1 .left))
-
-answer-requires : tie.Need-answer-requires
-answer-requires c κs = search needs
-
-same-length : tie.Need-same-length
-same-length c = search needs
 
 returns-2 : tie.Need-returns-2
 returns-2 c =
@@ -31,4 +22,5 @@ returns-2 c =
 
 pub answered-spec : {M : Type 1} → statement M
 answered-spec =
-    tie.close (tie.spec returns slice-aggregate-answer answer-requires same-length returns-2)
+    tie.close
+    (tie.spec (λ c. search needs) slice-aggregate-answer (λ c κs. search needs) (λ c. search needs) returns-2)

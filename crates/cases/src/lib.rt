@@ -1,0 +1,268 @@
+// Cases that stand in a text, one to a line: a name, a colon, and numbers with a space before each. A line that begins with # is a remark.
+// A number is 12, -12 (the pattern of 32 bits), x7fc00000 (bits) or f12 (the bits of the float 12). What is misread shows in what the
+// program writes.
+ghost use mathlib.Core.Path.{_≡_};
+ghost use Prim.Native.Nat.{_≤_};
+ghost use lib.ListN.{length};
+ghost use lib.Ieee.{binary32, ofBits};
+
+// How many numbers a case has; those that its line leaves out are 0.
+pub const ROW: usize = 80;
+
+const COMMENT: u8 = 35;
+
+const NEWLINE: u8 = 10;
+
+const SPACE: u8 = 32;
+
+const COLON: u8 = 58;
+
+// The line at `at`: writes its name and gives its numbers. `at` is then the next line. A remark writes nothing, and gives zeros.
+pub fn case(text: &[u8], at: &mut usize) -> [u32; 80]
+    ensures { λ r. ⌜ 80 ≡ length r ⌝ }
+{
+    let from = *at;
+    *at = next_line(text, from);
+    if starts_remark(text, from) {
+        return [0; 80];
+    }
+    let mut place = after_name(text, from);
+    row(text, &mut place)
+}
+
+pub fn starts_remark(text: &[u8], at: usize) -> bool {
+    if at < text.len() {
+        return text[at] == COMMENT;
+    }
+    false
+}
+
+// The first place from `from` on where either byte stands, or the end.
+fn place_of(text: &[u8], from: usize, a: u8, b: u8) -> usize
+    ensures { λ r. ⌜ from ≤ r ⌝ }
+{
+    let mut i = from;
+    while i < text.len() {
+        let byte = text[i];
+        if byte == a {
+            return i;
+        }
+        if byte == b {
+            return i;
+        }
+        i += 1;
+    }
+    i
+}
+
+pub fn next_line(text: &[u8], from: usize) -> usize
+    ensures { λ r. ⌜ from ≤ r ⌝ }
+{
+    let end = place_of(text, from, NEWLINE, NEWLINE);
+    if end < text.len() {
+        return end + 1;
+    }
+    end
+}
+
+// Writes a name; the place of the space after its colon.
+fn after_name(text: &[u8], from: usize) -> usize
+    ensures { λ r. ⌜ from ≤ r ⌝ }
+{
+    let end = place_of(text, from, COLON, NEWLINE);
+    if end < text.len() {
+        report::words(&text[from..end]);
+        return end + 1;
+    }
+    end
+}
+
+fn row(text: &[u8], at: &mut usize) -> [u32; 80]
+    ensures { λ r. ⌜ 80 ≡ length r ⌝ }
+{
+    let mut values = [0u32; 80];
+    let mut k = 0;
+    while k < ROW {
+        values[k] = number(text, at);
+        k += 1;
+    }
+    values
+}
+
+// The number at `at`, or after the space there; `at` is then past it. At the end of a line it is 0, and `at` stays.
+pub fn number(text: &[u8], at: &mut usize) -> u32 {
+    let from = after_space(text, *at);
+    let end = place_of(text, from, SPACE, NEWLINE);
+    *at = end;
+    token(text, from, end)
+}
+
+fn after_space(text: &[u8], at: usize) -> usize
+    ensures { λ r. ⌜ at ≤ r ⌝ }
+{
+    if at < text.len() {
+        if text[at] == SPACE {
+            return at + 1;
+        }
+    }
+    at
+}
+
+fn token(text: &[u8], from: usize, end: usize) -> u32 {
+    if end <= text.len() {
+        if from < end {
+            let first = text[from];
+            let rest = from + 1;
+            return match first {
+                b'x' => digits(&text[rest..end], true),
+                b'f' => whole_float(digits(&text[rest..end], false)),
+                b'-' => negative(digits(&text[rest..end], false)),
+                _ => digits(&text[from..end], false),
+            };
+        }
+    }
+    0
+}
+
+fn digits(text: &[u8], hex: bool) -> u32 {
+    let mut value = 0;
+    let mut i = 0;
+    while i < text.len() {
+        value = with_digit(value, hex, text[i]);
+        i += 1;
+    }
+    value
+}
+
+// A number of 32 bits with one digit more, decimal or hexadecimal: 0 to 9, a to f.
+fn with_digit(value: u32, hex: bool, byte: u8) -> u32 {
+    let v = value as u64;
+    let digit = (byte % 16) as u64 + letter(byte);
+    if hex {
+        return ((16 * v + digit) % 0x1_0000_0000) as u32;
+    }
+    ((10 * v + digit) % 0x1_0000_0000) as u32
+}
+
+fn letter(byte: u8) -> u64
+    ensures { λ r. ⌜ r ≤ 9 ⌝ }
+{
+    if byte < b'a' {
+        return 0;
+    }
+    9
+}
+
+fn negative(n: u32) -> u32 {
+    if n == 0 {
+        return 0;
+    }
+    0xffff_ffff - n + 1
+}
+
+fn whole_float(n: u32) -> u32 {
+    report::bits((n % 65536) as u16 as f32)
+}
+
+// A number of a case where a call or a line wants a wider type.
+pub fn wide(n: u32) -> u64
+    ensures { λ r. ⌜ r ≡ n ⌝ }
+{
+    n as u64
+}
+
+pub fn count(n: u32) -> usize
+    ensures { λ r. ⌜ r ≡ n ⌝ }
+{
+    n as usize
+}
+
+// The same as a length of something that has `most` entries.
+pub fn at_most(n: u32, most: usize) -> usize
+    ensures { λ r. ⌜ r ≤ most ⌝ }
+{
+    let n = n as usize;
+    if most < n {
+        return most;
+    }
+    n
+}
+
+// The float of a pattern.
+pub fn float(bits: u32) -> f32
+    ensures { λ r. ⌜ r ≡ ofBits binary32 bits ⌝ }
+{
+    if 0x7f80_0000 < bits % 0x8000_0000 {
+        return report::nan();
+    }
+    f32::from_bits(bits)
+}
+
+// A list: its count and then its numbers, as many as there is room for.
+pub fn list(text: &[u8], at: &mut usize, out: &mut [u32]) -> usize
+    ensures { λ r. ⌜ r ≤ length (now (out .exit)) ⌝ }
+{
+    let n = number(text, at) as usize;
+    let mut i = 0;
+    while i < n {
+        if out.len() <= i {
+            return i;
+        }
+        let next = number(text, at);
+        out[i] = next;
+        i += 1;
+    }
+    i
+}
+
+// A list as bytes, as floats of its patterns, and as signed numbers, as far as there is room; how many.
+pub fn bytes(list: &[u32], out: &mut [u8]) -> usize
+    ensures { λ r. ⌜ r ≤ length (now (out .exit)) ⌝ }
+{
+    let mut i = 0;
+    while i < list.len() {
+        if out.len() <= i {
+            return i;
+        }
+        out[i] = (list[i] % 256) as u8;
+        i += 1;
+    }
+    i
+}
+
+pub fn floats(list: &[u32], out: &mut [f32]) -> usize
+    ensures { λ r. ⌜ r ≤ length (now (out .exit)) ⌝ }
+{
+    let mut i = 0;
+    while i < list.len() {
+        if out.len() <= i {
+            return i;
+        }
+        out[i] = float(list[i]);
+        i += 1;
+    }
+    i
+}
+
+pub fn numbers(list: &[u32], out: &mut [i16]) -> usize
+    ensures { λ r. ⌜ r ≤ length (now (out .exit)) ⌝ }
+{
+    let mut i = 0;
+    while i < list.len() {
+        if out.len() <= i {
+            return i;
+        }
+        out[i] = signed(list[i]);
+        i += 1;
+    }
+    i
+}
+
+// The signed number of a pattern's low 16 bits.
+pub fn signed(bits: u32) -> i16 {
+    let low = bits % 65536;
+    if low < 32768 {
+        return low as i16;
+    }
+    -1 - ((65535 - low) as i16)
+}
