@@ -2,8 +2,10 @@
 // A number is 12, -12 (the pattern of 32 bits), x7fc00000 (bits) or f12 (the bits of the float 12). What is misread shows in what the
 // program writes.
 ghost use mathlib.Core.Path.{_≡_};
+ghost use mathlib.Core.Bool.{_&&_};
 ghost use Prim.Native.Nat.{_≤_};
-ghost use lib.ListN.{length};
+ghost use lib.Dec.{eqb, ltb};
+ghost use lib.ListN.{length, getD};
 ghost use lib.Ieee.{binary32, ofBits};
 
 // How many numbers a case has; those that its line leaves out are 0.
@@ -30,7 +32,9 @@ pub fn case(text: &[u8], at: &mut usize) -> [u32; 80]
     row(text, &mut place)
 }
 
-pub fn starts_remark(text: &[u8], at: usize) -> bool {
+pub fn starts_remark(text: &[u8], at: usize) -> bool
+    ensures { λ r. ⌜ r ≡ (ltb at (length (now (text .entry))) && eqb (getD (now (text .entry)) at 0) 35) ⌝ }
+{
     if at < text.len() {
         return text[at] == COMMENT;
     }
@@ -89,8 +93,10 @@ fn row(text: &[u8], at: &mut usize) -> [u32; 80]
     values
 }
 
-// The number at `at`, or after the space there; `at` is then past it. At the end of a line it is 0, and `at` stays.
-pub fn number(text: &[u8], at: &mut usize) -> u32 {
+// The number at `at`, or after the space there; `at` is then past it, and never goes back. At the end of a line it is 0, and `at` stays.
+pub fn number(text: &[u8], at: &mut usize) -> u32
+    ensures { λ _. ⌜ now (at .entry) ≤ now (at .exit) ⌝ }
+{
     let from = after_space(text, *at);
     let end = place_of(text, from, SPACE, NEWLINE);
     *at = end;
