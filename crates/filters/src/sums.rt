@@ -1,6 +1,6 @@
 // Ordered f32 sums, a block of neighbouring pixels at once: each weight is added to every sum of the block before the next weight is, so
 // each pixel's own sum keeps its order (01.Border.7) and the loops run over slices in step.
-use crate::convolution::place;
+use border::coord::place;
 use rules::BorderMode;
 use rules::Kernel;
 use rules::Size;
@@ -73,7 +73,7 @@ fn place_about(at: usize, half: usize, side: usize, border: BorderMode) -> usize
     requires { ⌜ (0 < side) × (side ≤ maxSide) × (at < 2 * maxSide) × (half ≤ maxTaps) ⌝ }
     ensures { λ r. ⌜ r ≡ placeIn side (resolved border (pos at -ℤ pos half) side) ⌝ }
 {
-    place(at as i64 - half as i64, side, border)
+    place(at as u32, half as u32, side, border)
 }
 
 // The sample of a row at coordinate at - half.

@@ -1,0 +1,55 @@
+-- `resolve` meets its contract: each mode's own function. A signed argument goes by its bits. Assumes nothing.
+use mathlib.Core.Path.{ap}
+use mir.Syntax.{w64}
+use mir.ValLaws.{toZ-ofZ}
+use borrow.Author.Needs.{needs}
+use Rattle.rules.specs.declared.Coord.the-variants.{At}
+use Rattle.border.proofs.coord.resolve.Statement.{statement}
+use Rattle.border.proofs.coord.resolve.Tie as tie
+
+enum-told : tie.Need-enum-told
+enum-told c = search needs
+
+zero-at-requires : tie.Need-zero-at-requires
+zero-at-requires c κs = search needs
+
+enum-told-2 : tie.Need-enum-told-2
+enum-told-2 c = search needs
+
+clamp-at-requires : tie.Need-clamp-at-requires
+clamp-at-requires c κs = search needs
+
+enum-told-3 : tie.Need-enum-told-3
+enum-told-3 c = search needs
+
+mirror-at-requires : tie.Need-mirror-at-requires
+mirror-at-requires c κs = search needs
+
+returns : tie.Need-returns
+returns c =
+    let s = c .before .before .before in
+    rw (c .before .enum-told .given .1) (rw (toZ-ofZ w64 (s .args .c) (s .fits .c)) at (c .zero-at .ensures))
+
+returns-2 : tie.Need-returns-2
+returns-2 c =
+    let s = c .before .before .before in
+    rw (c .before .enum-told2 .given .1) (ap At (rw (toZ-ofZ w64 (s .args .c) (s .fits .c)) at (c .clamp-at .ensures)))
+
+returns-3 : tie.Need-returns-3
+returns-3 c =
+    let s = c .before .before .before in
+    rw (c .before .enum-told3 .given .1) (ap At (rw (toZ-ofZ w64 (s .args .c) (s .fits .c)) at (c .mirror-at .ensures)))
+
+pub resolve-spec : {M : Type 1} → statement M
+resolve-spec =
+    tie.close
+    (tie.spec
+    enum-told
+    zero-at-requires
+    enum-told-2
+    clamp-at-requires
+    enum-told-3
+    mirror-at-requires
+    returns
+    returns-2
+    returns-3)

@@ -1,0 +1,76 @@
+-- `first_window` meets its contract, column by column. Assumes nothing.
+use borrow.Author.Needs.{needs, zero≤}
+use native.Mathlib.Omega.{arith}
+use mathlib.Core.Path.{_≡_, refl, ap, _∙_}
+use Prim.Native.Nat.{ℕ, _+_, _-_, _<_, _≤_}
+use denote.Ref.{now}
+use lib.ListN.{length, getD}
+use Rattle.median.specs.Counts.{columnPlace, Holds}
+use Rattle.median.proofs.Windows.{counts-of, put-holds}
+use Rattle.median.proofs.first_window.Statement.{statement}
+use Rattle.median.proofs.first_window.Tie as tie
+
+abbrev Inv-loop : tie.InvT-loop
+Inv-loop pixels size border rows counts₀ c₀ counts c = (c ≤ length rows) × (length counts ≡ length counts₀) × Holds pixels size border rows 0 c counts
+
+abbrev μ-loop : tie.MeasureT-loop
+μ-loop pixels size border rows counts₀ c₀ counts c = length rows - c
+
+bytes : (k : tie.After-shared-slice-known Inv-loop μ-loop) → (i : ℕ) → getD (now (k .before .args .pixels)) i 0 < 256
+bytes k i = omega (arith, k .shared-slice-known .given i)
+
+loop-holds : tie.Need-loop-holds Inv-loop μ-loop
+loop-holds c = (zero≤, refl, c .before .before .before .pre .1)
+
+place-column-requires : tie.Need-place-column-requires Inv-loop μ-loop
+place-column-requires c κs = search needs
+
+put-column-requires : tie.Need-put-column-requires Inv-loop μ-loop
+put-column-requires c κs =
+    let l = c .before .before .before .loop in
+    let k = c .before .before .before .before .before .before in
+    let a = k .before .args in
+    let p = counts-of (now (a .pixels)) (a .size) (a .border) (now (a .rows)) (k .before .pre .0 .few) (bytes k) 0 (l .c) (l .counts) (l .inv .0) (l .inv .2) in
+    search needs
+
+add-c : tie.Need-add-c Inv-loop μ-loop
+add-c c = search needs
+
+loop-less : tie.Need-loop-less Inv-loop μ-loop
+loop-less c = search needs
+
+loop-again : tie.Need-loop-again Inv-loop μ-loop
+loop-again c =
+    let l = c .before .before .before .before .before .before .loop in
+    let k = c .before .before .before .before .before .before .before .before .before in
+    let a = k .before .args in
+    let z : l .c ≡ 0 + l .c = omega arith in (
+      search needs,
+      search needs,
+      put-holds (now (a .pixels)) (a .size) (a .border) (now (a .rows)) (k .before .pre .0 .few) (bytes k) 0 (l .c) _ (l .counts) _ (l .inv .2)
+          (c .before .before .before .before .place-column .ensures ∙ ap (columnPlace (a .size) (length (now (a .rows))) (a .border)) z) (c .before .before .put-column .ensures .0),
+    )
+
+same-length : tie.Need-same-length Inv-loop μ-loop
+same-length c = search needs
+
+returns : tie.Need-returns Inv-loop μ-loop
+returns c =
+    let l = c .before .loop in
+    let n : l .c ≡ length (now (c .before .before .before .before .before .args .rows)) = omega arith in
+    rw n at (l .inv .2)
+
+pub first-window-spec : {M : Type 1} → statement M
+first-window-spec =
+    tie.close
+    (tie.spec
+    Inv-loop
+    μ-loop
+    loop-holds
+    place-column-requires
+    put-column-requires
+    add-c
+    loop-less
+    loop-again
+    same-length
+    returns)

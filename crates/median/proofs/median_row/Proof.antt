@@ -1,0 +1,53 @@
+-- `median_row` meets its contract: the places of its window's rows, then the row. Assumes nothing.
+use borrow.Author.Needs.{needs}
+use native.Mathlib.Omega.{arith}
+use Rattle.median.proofs.Windows.{part-count, part-about}
+use Rattle.median.proofs.median_row.Statement.{statement}
+use Rattle.median.proofs.median_row.Tie as tie
+
+slice-aggregate-place-rows : tie.Need-slice-aggregate-place-rows
+slice-aggregate-place-rows c = search needs
+
+place-rows-requires : tie.Need-place-rows-requires
+place-rows-requires c κs = search needs
+
+sub-slide : tie.Need-sub-slide
+sub-slide c = search needs
+
+part-slide-start : tie.Need-part-slide-start
+part-slide-start c = search needs
+
+part-slide-end : tie.Need-part-slide-end
+part-slide-end c = search needs
+
+slide-requires : tie.Need-slide-requires
+slide-requires c κs =
+    let s = c .before .before .before .before .before .before .before .before in
+    let a = s .args in
+    let e = c .before .before .before .before .place-rows .ensures in
+    let n = part-count (a .size) (a .border) (a .window) (a .y) _ _ e in (
+      record { picture = s .pre .0; wide = s .pre .1; some = omega (arith, s .pre .3); few = omega (arith, s .pre .4) },
+      part-about (a .size) (a .border) (a .window) (a .y) _ _ e (s .pre .2),
+      s .pre .5,
+    )
+
+same-length : tie.Need-same-length
+same-length c = search needs
+
+returns : tie.Need-returns
+returns c =
+    let a = c .before .before .before .before .before .before .before .before .before .before .before .args in
+    rw (part-count (a .size) (a .border) (a .window) (a .y) _ _ (c .before .before .before .before .before .before .before .place-rows .ensures)) at (c .before .before .slide .ensures)
+
+pub median-row-spec : {M : Type 1} → statement M
+median-row-spec =
+    tie.close
+    (tie.spec
+    slice-aggregate-place-rows
+    place-rows-requires
+    sub-slide
+    part-slide-start
+    part-slide-end
+    slide-requires
+    same-length
+    returns)

@@ -1,0 +1,5 @@
+-- Laws about this crate's code that several of its proofs cite.
+pub mod Components
+pub mod Pixels
+pub mod Halving
+pub mod Energies
