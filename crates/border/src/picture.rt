@@ -1,28 +1,9 @@
-// A lent picture: the two refusals that every filter's call begins with, and a byte of it by its column's and its row's place.
+// A byte of a lent picture, by the places of its column and its row.
+use crate::refusals::picture_refusal;
 use rules::ACCEPTED;
-use rules::MAX_SIDE;
-use rules::REFUSED_INPUT;
-use rules::REFUSED_SIDE;
 use rules::Size;
 ghost use mathlib.Core.Path.{_≡_};
-ghost use Rattle.rules.specs.Refusals.{first};
-ghost use Rattle.border.specs.Reading.{pictureRows, readIn};
-
-// 1: a side over the limit; 2: a picture that is not width times height long.
-pub fn picture_refusal(pixels: &[u8], size: Size) -> u8
-    ensures { λ r. ⌜ r ≡ first (pictureRows size (now (pixels .entry))) ⌝ }
-{
-    if MAX_SIDE < size.width {
-        return REFUSED_SIDE;
-    }
-    if MAX_SIDE < size.height {
-        return REFUSED_SIDE;
-    }
-    if pixels.len() != size.width * size.height {
-        return REFUSED_INPUT;
-    }
-    ACCEPTED
-}
+ghost use Rattle.border.specs.Reading.{readIn};
 
 // The byte in column x and row y, each as `place` gives it: 0 where one of them is nowhere, and of a picture that is refused.
 pub fn read(pixels: &[u8], size: Size, x: usize, y: usize) -> u8

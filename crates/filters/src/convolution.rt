@@ -3,10 +3,10 @@ use crate::passes::BLOCK;
 use crate::passes::convolve;
 use crate::passes::horizontal_pass;
 use crate::passes::vertical_pass;
-use crate::refusals::of_kernel;
-use crate::refusals::of_separable;
 use crate::sums::clear;
 pub use border::coord::resolve_coord;
+use border::refusals::kernel_refusal;
+use border::refusals::separable_refusal;
 use rules::ACCEPTED;
 use rules::BorderMode;
 use rules::Kernel;
@@ -26,12 +26,9 @@ pub fn apply_kernel(
 ) -> u8
     ensures { λ r. ⌜ (r, now (out .exit)) ≡ applyKernel size kernel border (now (pixels .entry)) (now (weights .entry)) (now (out .entry)) ⌝ }
 {
-    let refusal = of_kernel(pixels, size, kernel, weights, out);
+    let refusal = kernel_refusal(pixels, size, kernel, weights, out);
     if refusal != ACCEPTED {
         return refusal;
-    }
-    if size.width == 0 {
-        return ACCEPTED;
     }
     let mut sums = [0.0f32; BLOCK];
     convolve(pixels, size, kernel, weights, border, &mut sums, out);
@@ -51,12 +48,9 @@ pub fn apply_separable_kernel(
 ) -> u8
     ensures { λ r. ⌜ (r, (now (work .exit), now (out .exit))) ≡ applySeparableKernel size kernel border (now (pixels .entry)) (now (horizontal .entry)) (now (vertical .entry)) (now (work .entry)) (now (out .entry)) ⌝ }
 {
-    let refusal = of_separable(pixels, size, kernel, horizontal, vertical, work, out);
+    let refusal = separable_refusal(pixels, size, kernel, horizontal, vertical, work, out);
     if refusal != ACCEPTED {
         return refusal;
-    }
-    if size.width == 0 {
-        return ACCEPTED;
     }
     horizontal_pass(pixels, size, horizontal, border, work);
     let mut sums = [0.0f32; BLOCK];

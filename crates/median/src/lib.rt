@@ -1,7 +1,7 @@
 // The median of a square window, by counts of the 256 byte values that move along a row: one column out, one in.
 use border::coord::place;
-use border::picture::picture_refusal;
 use border::picture::read;
+use border::refusals::picture_refusal;
 use rules::ACCEPTED;
 use rules::BorderMode;
 use rules::MAX_WINDOW;

@@ -1,11 +1,9 @@
 // Sobel's gradient and Sobel's own bytes. Each public call refuses by number or runs by document 01's rules.
-mod root;
-
-use crate::root::root_byte;
-pub use crate::root::sobel_byte;
 use border::coord::place;
-use border::picture::picture_refusal;
 use border::picture::read;
+use border::refusals::picture_refusal;
+use root::root_byte;
+pub use root::sobel_byte;
 use rules::ACCEPTED;
 use rules::BorderMode;
 use rules::REFUSED_ROOM;

@@ -49,7 +49,7 @@ loop-holds : tie.Need-loop-holds Inv-loop μ-loop
 loop-holds c = let a = c .before .before .before .before .before .args in (filling-start (area (a .size)) (byPixel (a .size) (convolvedAt (a .size) (a .kernel) (a .border) (now (a .pixels)) (now (a .weights)))) (now (a .out)), refl)
 
 rem-x : tie.Need-rem-x Inv-loop μ-loop
-rem-x c = c .before .before .before .before .before .before .before .pre .0 .wide
+rem-x c = omega (arith, run c .column)
 
 sub-least : tie.Need-sub-least Inv-loop μ-loop
 sub-least c = omega (arith, run c .column)
@@ -58,7 +58,7 @@ least-requires : tie.Need-least-requires Inv-loop μ-loop
 least-requires c κs = search needs
 
 div-byte-sums : tie.Need-div-byte-sums Inv-loop μ-loop
-div-byte-sums c = c .before .before .before .before .before .before .before .before .pre .0 .wide
+div-byte-sums c = omega (arith, run (c .before) .column)
 
 byte-sums-requires : tie.Need-byte-sums-requires Inv-loop μ-loop
 byte-sums-requires c κs =

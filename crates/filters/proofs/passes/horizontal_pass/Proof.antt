@@ -38,7 +38,7 @@ loop-holds : tie.Need-loop-holds Inv-loop μ-loop
 loop-holds c = let a = c .before .before .before .before .args in filling-start (area (a .size)) (byPixel (a .size) (horizontalAt (a .size) (length (now (a .taps))) (a .border) (now (a .taps)) (ofBytes (now (a .pixels))))) (now (a .work))
 
 rem-x : tie.Need-rem-x Inv-loop μ-loop
-rem-x c = c .before .before .before .before .before .before .pre .wide
+rem-x c = omega (arith, run c .column)
 
 sub-n : tie.Need-sub-n Inv-loop μ-loop
 sub-n c = omega (arith, run c .column)
@@ -47,7 +47,7 @@ add-e : tie.Need-add-e Inv-loop μ-loop
 add-e c = omega (arith, ends c, run c .small)
 
 div-byte-sums : tie.Need-div-byte-sums Inv-loop μ-loop
-div-byte-sums c = c .before .before .before .before .before .before .pre .wide
+div-byte-sums c = omega (arith, run c .column)
 
 mul-byte-sums : tie.Need-mul-byte-sums Inv-loop μ-loop
 mul-byte-sums c = omega (arith, ends c, run c .small)

@@ -50,7 +50,7 @@ loop-holds : tie.Need-loop-holds Inv-loop μ-loop
 loop-holds c = let a = c .before .before .before .before .before .args in (filling-start (area (a .size)) (byPixel (a .size) (λ x y. toByte (verticalAt (a .size) (length (now (a .taps))) (a .border) (now (a .taps)) (ofFloats (now (a .entries))) x y))) (now (a .out)), refl)
 
 rem-x : tie.Need-rem-x Inv-loop μ-loop
-rem-x c = c .before .before .before .before .before .before .before .pre .0 .wide
+rem-x c = omega (arith, run c .column)
 
 sub-least : tie.Need-sub-least Inv-loop μ-loop
 sub-least c = omega (arith, run c .column)
@@ -59,7 +59,7 @@ least-requires : tie.Need-least-requires Inv-loop μ-loop
 least-requires c κs = search needs
 
 div-float-sums : tie.Need-div-float-sums Inv-loop μ-loop
-div-float-sums c = c .before .before .before .before .before .before .before .before .pre .0 .wide
+div-float-sums c = omega (arith, run (c .before) .column)
 
 float-sums-requires : tie.Need-float-sums-requires Inv-loop μ-loop
 float-sums-requires c κs =
