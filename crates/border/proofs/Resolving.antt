@@ -9,7 +9,6 @@ use mir.Syntax.{w64}
 use mir.Val.{SFits, toZ, ofZ}
 use mir.ValLaws.{toZ-ofZ}
 use Rattle.rules.specs.Border.{zeroOf, clampOf, emod, mirrorOf}
-use Rattle.rules.specs.declared.Coord.{Coord}
 use Rattle.rules.specs.declared.Coord.the-variants.{At, Nothing}
 use Rattle.rules.proofs.Signed.{negative}
 

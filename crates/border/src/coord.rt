@@ -3,7 +3,7 @@ use rules::BorderMode;
 use rules::Coord;
 use rules::MAX_SIDE;
 ghost use mathlib.Core.Path.{_≡_};
-ghost use Prim.Native.Nat.{ℕ, _≤_, _<_, _*_};
+ghost use Prim.Native.Nat.{_≤_, _<_, _*_};
 ghost use lib.IntN.{pos, _-ℤ_};
 ghost use Rattle.rules.specs.Limits.{maxSide};
 ghost use Rattle.rules.specs.Border.{emod, clampOf, mirrorOf, resolved, coordSays};

@@ -13,7 +13,7 @@ use Rattle.rules.specs.Border.{resolved, entryAt, sampleAt}
 use Rattle.rules.specs.Sums.{plusZero, toByte}
 use Rattle.rules.specs.Filters.{ofBytes, ofFloats, sampler, kernelSum, rowKernel, columnKernel, horizontalAt, verticalAt, separableAt}
 use Rattle.rules.specs.Refusals.{first, kernelRows, separableRows}
-use Rattle.rules.specs.Calls.{painted, separated}
+use Rattle.rules.specs.Calls.{painted}
 use Rattle.rules.specs.declared.Size.{Size}
 use Rattle.rules.specs.declared.Kernel.{Kernel}
 use Rattle.rules.specs.declared.SeparableKernel.{SeparableKernel}

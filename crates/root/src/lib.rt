@@ -2,7 +2,6 @@
 ghost use mathlib.Core.Path.{_≡_};
 ghost use mathlib.Core.Bool.{cond};
 ghost use lib.Dec.{ltb};
-ghost use Prim.Native.Nat.{ℕ};
 ghost use Rattle.rules.specs.Root.{sobelByte};
 ghost use Rattle.root.specs.Halving.{Ends, Among, Halving};
 

@@ -2,11 +2,10 @@
 use mathlib.Core.Path.{_≡_, refl, sym, ap, ap₂, _∙_}
 use mathlib.Core.List.{List, [], _∷_}
 use Prim.Native.Nat.{ℕ, _+_, _-_, _*_, _/_, _%_, _<_, _≤_}
-use native.Mathlib.Nat.{mul-comm, add-mul, mul-le-mul, mul-le-mul-right}
+use native.Mathlib.Nat.{add-mul, mul-le-mul-right}
 use native.Mathlib.Omega.{arith}
 use lib.ListN.{length, getD}
 use lib.IntN.{ℤ, pos}
-use Rattle.rules.specs.Limits.{maxSide, maxWindow}
 use Rattle.rules.specs.Picture.{tabulate, area, byPixel}
 use Rattle.rules.specs.Border.{byteSample, under}
 use Rattle.rules.specs.Gradient.{gxTable, gyTable, sumZ, gradientTerm, gradientAt, energy}
@@ -14,7 +13,7 @@ use Rattle.rules.specs.Root.{sobelByte}
 use Rattle.rules.specs.Calls.{sobelAt}
 use Rattle.rules.specs.declared.Size.{Size}
 use Rattle.rules.specs.declared.BorderMode.{BorderMode}
-use Rattle.rules.proofs.Grid.{row-in, wide, column-in, row-below, column-of, row-of}
+use Rattle.rules.proofs.Grid.{row-in, column-in, row-below, column-of, row-of}
 use Rattle.rules.proofs.Border.{diff, sample-inside}
 use Rattle.border.specs.Lent.{Picture, written}
 use Rattle.border.proofs.Writing.{Row, rewrite-as, write-on}

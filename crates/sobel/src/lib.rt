@@ -9,7 +9,7 @@ use rules::BorderMode;
 use rules::REFUSED_ROOM;
 use rules::Size;
 ghost use mathlib.Core.Path.{_≡_};
-ghost use Prim.Native.Nat.{ℕ, _+_, _≤_, _<_};
+ghost use Prim.Native.Nat.{_+_, _≤_, _<_};
 ghost use lib.ListN.{length};
 ghost use Rattle.rules.specs.Picture.{area, filled};
 ghost use Rattle.rules.specs.Gradient.{gxTable, gyTable, energy};

@@ -1,6 +1,5 @@
 -- `half_above` meets its contract, by one computed test over the bytes. Assumes nothing.
 use borrow.Author.Needs.{needs}
-use native.Mathlib.Omega.{arith}
 use Rattle.filters.proofs.Rounding.{half}
 use Rattle.filters.proofs.byte.half_above.Statement.{statement}
 use Rattle.filters.proofs.byte.half_above.Tie as tie

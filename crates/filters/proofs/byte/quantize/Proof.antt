@@ -1,10 +1,9 @@
 -- `quantize` meets its contract: held, nearest, and one comparison with n and a half. Assumes nothing.
 use borrow.Author.Needs.{needs}
 use native.Mathlib.Omega.{arith}
-use mathlib.Core.Path.{_≡_, sym, ap, _∙_, subst}
-use lib.Ieee.{Float}
+use mathlib.Core.Path.{_≡_, ap, _∙_}
 use Rattle.rules.specs.Sums.{toByte}
-use Rattle.filters.specs.Byte.{heldOf, Small}
+use Rattle.filters.specs.Byte.{Small}
 use Rattle.filters.proofs.Rounding.{small-held, held-same, rounds-down, rounds-up, rounds-under}
 use Rattle.filters.proofs.byte.quantize.Statement.{statement}
 use Rattle.filters.proofs.byte.quantize.Tie as tie

@@ -4,7 +4,6 @@ use native.Mathlib.Omega.{arith}
 use Prim.Native.Nat.{_+_, _*_, _/_, _%_, _<_, _≤_}
 use mathlib.Core.Path.{_∙_}
 use denote.Ref.{now}
-use lib.ListN.{length}
 use Rattle.rules.specs.Limits.{maxSide}
 use Rattle.rules.specs.Picture.{area}
 use Rattle.rules.specs.Border.{under}
