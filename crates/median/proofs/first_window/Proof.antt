@@ -22,9 +22,6 @@ bytes k i = omega (arith, k .shared-slice-known .given i)
 loop-holds : tie.Need-loop-holds Inv-loop μ-loop
 loop-holds c = (zero≤, refl, c .before .before .before .pre .1)
 
-place-column-requires : tie.Need-place-column-requires Inv-loop μ-loop
-place-column-requires c κs = search needs
-
 put-column-requires : tie.Need-put-column-requires Inv-loop μ-loop
 put-column-requires c κs =
     let l = c .before .before .before .loop in
@@ -32,12 +29,6 @@ put-column-requires c κs =
     let a = k .before .args in
     let p = counts-of (now (a .pixels)) (a .size) (a .border) (now (a .rows)) (k .before .pre .0 .few) (bytes k) 0 (l .c) (l .counts) (l .inv .0) (l .inv .2) in
     search needs
-
-add-c : tie.Need-add-c Inv-loop μ-loop
-add-c c = search needs
-
-loop-less : tie.Need-loop-less Inv-loop μ-loop
-loop-less c = search needs
 
 loop-again : tie.Need-loop-again Inv-loop μ-loop
 loop-again c =
@@ -50,9 +41,6 @@ loop-again c =
       put-holds (now (a .pixels)) (a .size) (a .border) (now (a .rows)) (k .before .pre .0 .few) (bytes k) 0 (l .c) _ (l .counts) _ (l .inv .2)
           (c .before .before .before .before .place-column .ensures ∙ ap (columnPlace (a .size) (length (now (a .rows))) (a .border)) z) (c .before .before .put-column .ensures .0),
     )
-
-same-length : tie.Need-same-length Inv-loop μ-loop
-same-length c = search needs
 
 returns : tie.Need-returns Inv-loop μ-loop
 returns c =
@@ -67,10 +55,10 @@ first-window-spec =
     Inv-loop
     μ-loop
     loop-holds
-    place-column-requires
+    (λ c κs. search needs)
     put-column-requires
-    add-c
-    loop-less
+    (λ c. search needs)
+    (λ c. search needs)
     loop-again
-    same-length
+    (λ c. search needs)
     returns)

@@ -5,21 +5,6 @@ use Rattle.median.proofs.Windows.{part-count, part-about}
 use Rattle.median.proofs.median_row.Statement.{statement}
 use Rattle.median.proofs.median_row.Tie as tie
 
-slice-aggregate-place-rows : tie.Need-slice-aggregate-place-rows
-slice-aggregate-place-rows c = search needs
-
-place-rows-requires : tie.Need-place-rows-requires
-place-rows-requires c κs = search needs
-
-sub-slide : tie.Need-sub-slide
-sub-slide c = search needs
-
-part-slide-start : tie.Need-part-slide-start
-part-slide-start c = search needs
-
-part-slide-end : tie.Need-part-slide-end
-part-slide-end c = search needs
-
 slide-requires : tie.Need-slide-requires
 slide-requires c κs =
     let s = c .before .before .before .before .before .before .before .before in
@@ -31,9 +16,6 @@ slide-requires c κs =
       s .pre .5,
     )
 
-same-length : tie.Need-same-length
-same-length c = search needs
-
 returns : tie.Need-returns
 returns c =
     let a = c .before .before .before .before .before .before .before .before .before .before .before .args in
@@ -43,11 +25,11 @@ pub median-row-spec : {M : Type 1} → statement M
 median-row-spec =
     tie.close
     (tie.spec
-    slice-aggregate-place-rows
-    place-rows-requires
-    sub-slide
-    part-slide-start
-    part-slide-end
+    (λ c. search needs)
+    (λ c κs. search needs)
+    (λ c. search needs)
+    (λ c. search needs)
+    (λ c. search needs)
     slide-requires
-    same-length
+    (λ c. search needs)
     returns)

@@ -31,15 +31,6 @@ returns c =
 loop-holds : tie.Need-loop-holds Inv-loop μ-loop
 loop-holds c = (zero≤, refl, rows-start (c .before .before .before .before .args .size) _ _)
 
-median-row-requires : tie.Need-median-row-requires Inv-loop μ-loop
-median-row-requires c κs = search needs
-
-add-y : tie.Need-add-y Inv-loop μ-loop
-add-y c = search needs
-
-loop-less : tie.Need-loop-less Inv-loop μ-loop
-loop-less c = search needs
-
 loop-again : tie.Need-loop-again Inv-loop μ-loop
 loop-again c =
     let m = c .before .before .before .before .before .before in
@@ -49,9 +40,6 @@ loop-again c =
       search needs,
       rows-more (a .size) (medianOf (a .size) (a .window) (a .border) (now (a .pixels))) (now (a .out)) (m .loop .y) (m .loop .out) _ (omega arith) (s .pre .3) (m .loop .inv .2) (c .before .before .median-row .ensures),
     )
-
-same-length : tie.Need-same-length Inv-loop μ-loop
-same-length c = search needs
 
 returns-2 : tie.Need-returns-2 Inv-loop μ-loop
 returns-2 c =
@@ -68,9 +56,9 @@ median-rows-spec =
     μ-loop
     returns
     loop-holds
-    median-row-requires
-    add-y
-    loop-less
+    (λ c κs. search needs)
+    (λ c. search needs)
+    (λ c. search needs)
     loop-again
-    same-length
+    (λ c. search needs)
     returns-2)

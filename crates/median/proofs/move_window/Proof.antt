@@ -11,15 +11,6 @@ use Rattle.median.proofs.move_window.Tie as tie
 bytes : (k : tie.After-shared-slice-known) → (i : ℕ) → getD (now (k .before .args .pixels)) i 0 < 256
 bytes k i = omega (arith, k .shared-slice-known .given i)
 
-place-column-requires : tie.Need-place-column-requires
-place-column-requires c κs = search needs
-
-add-place-column : tie.Need-add-place-column
-add-place-column c = search needs
-
-place-column-requires-2 : tie.Need-place-column-requires-2
-place-column-requires-2 c κs = search needs
-
 take-column-requires : tie.Need-take-column-requires
 take-column-requires c κs =
     let k = c .before .before .before .before .before in
@@ -44,9 +35,6 @@ put-column-requires c κs =
       omega (arith, t .1, s .pre .4),
     )
 
-same-length : tie.Need-same-length
-same-length c = search needs
-
 returns : tie.Need-returns
 returns c =
     let k = c .before .before .before .before .before .before .before .before .before .before .before .before in
@@ -70,10 +58,10 @@ pub move-window-spec : {M : Type 1} → statement M
 move-window-spec =
     tie.close
     (tie.spec
-    place-column-requires
-    add-place-column
-    place-column-requires-2
+    (λ c κs. search needs)
+    (λ c. search needs)
+    (λ c κs. search needs)
     take-column-requires
     put-column-requires
-    same-length
+    (λ c. search needs)
     returns)

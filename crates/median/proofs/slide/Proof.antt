@@ -37,9 +37,6 @@ module _ (m : tie.At-loop Inv-loop μ-loop) where
   bytes : (i : ℕ) → getD (now (S .args .pixels)) i 0 < 256
   bytes i = omega (arith, m .before .before .before .before .before .before .before .shared-slice-known .given i)
 
-slice-aggregate-first-window : tie.Need-slice-aggregate-first-window Inv-loop μ-loop
-slice-aggregate-first-window c = search needs
-
 first-window-requires : tie.Need-first-window-requires Inv-loop μ-loop
 first-window-requires c κs = let s = c .before .before .before .before in (s .pre .0, no-columns (now (s .args .pixels)) (s .args .size) (s .args .border) (now (s .args .rows)) 0)
 
@@ -54,9 +51,6 @@ loop-holds c =
     let a = c .before .before .before .before .before .before .before .args in
     let z : a .y * a .size .width + 0 ≡ a .y * a .size .width = omega arith in
     (zero≤, refl, c .before .before .first-window .ensures, none-below _, rw z (write-start (a .y * a .size .width) _ (now (a .out))))
-
-slice-aggregate-select : tie.Need-slice-aggregate-select Inv-loop μ-loop
-slice-aggregate-select c = search needs
 
 select-requires : tie.Need-select-requires Inv-loop μ-loop
 select-requires c κs =
@@ -81,21 +75,12 @@ add-out c = let r = row (S (c .before .before .before .before)) in omega arith
 slice-write-out : tie.Need-slice-write-out Inv-loop μ-loop
 slice-write-out c = let r = row (S (c .before .before .before .before)) in let m = c .before .before .before .before in omega (arith, m .loop .inv .1, S m .pre .2, c .before .before .if1 .taken)
 
-slice-aggregate-move-window : tie.Need-slice-aggregate-move-window Inv-loop μ-loop
-slice-aggregate-move-window c = search needs
-
 move-window-requires : tie.Need-move-window-requires Inv-loop μ-loop
 move-window-requires c κs =
     let m = c .before .before .before .before .before in
     let e = c .before .select .ensures in
     let q = square (S m) in
     (S m .pre .0, c .before .before .before .if1 .taken, m .loop .inv .2, e .middle, omega (arith, e .from))
-
-add-x : tie.Need-add-x Inv-loop μ-loop
-add-x c = search needs
-
-loop-less : tie.Need-loop-less Inv-loop μ-loop
-loop-less c = search needs
 
 loop-again : tie.Need-loop-again Inv-loop μ-loop
 loop-again c =
@@ -116,9 +101,6 @@ loop-again c =
           (median-at (now (a .pixels)) (a .size) (s .pre .0 .picture) (a .border) (now (a .rows)) (a .y) (s .pre .0 .some) (s .pre .0 .wide) (s .pre .1) (l .x) (l .counts) (l .inv .2) _ _ t (c .before .before .before .select .ensures))),
     )
 
-same-length : tie.Need-same-length Inv-loop μ-loop
-same-length c = search needs
-
 returns : tie.Need-returns Inv-loop μ-loop
 returns c =
     let l = c .before .before .loop in
@@ -132,20 +114,20 @@ slide-spec =
     (tie.spec
     Inv-loop
     μ-loop
-    slice-aggregate-first-window
+    (λ c. search needs)
     first-window-requires
     mul-item
     mul-a
     loop-holds
-    slice-aggregate-select
+    (λ c. search needs)
     select-requires
     cast-out
     add-out
     slice-write-out
-    slice-aggregate-move-window
+    (λ c. search needs)
     move-window-requires
-    add-x
-    loop-less
+    (λ c. search needs)
+    (λ c. search needs)
     loop-again
-    same-length
+    (λ c. search needs)
     returns)

@@ -6,14 +6,8 @@ use Rattle.rules.proofs.Roots.{byte-over}
 use Rattle.root.proofs.capped.Statement.{statement}
 use Rattle.root.proofs.capped.Tie as tie
 
-cast-result : tie.Need-cast-result
-cast-result c = search needs
-
-returns : tie.Need-returns
-returns c = search needs
-
 returns-2 : tie.Need-returns-2
 returns-2 c = sym (byte-over 65535 (omega arith)) ∙ byte-over (c .before .args .s) (omega arith)
 
 pub capped-spec : {M : Type 1} → statement M
-capped-spec = tie.close (tie.spec cast-result returns returns-2)
+capped-spec = tie.close (tie.spec (λ c. search needs) (λ c. search needs) returns-2)

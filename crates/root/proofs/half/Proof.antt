@@ -11,17 +11,8 @@ use Rattle.root.proofs.half.Tie as tie
 left : (c : tie.After-gain) → let a = c .before .args in Among (a .s) (a .n + c .gain .result) (a .b)
 left c = let a = c .before .args in gained (a .s) (a .n) (a .b) _ (c .before .pre) (c .gain .ensures)
 
-add-m : tie.Need-add-m
-add-m c = search needs
-
-sub-gain : tie.Need-sub-gain
-sub-gain c = search needs
-
 mul-gain : tie.Need-mul-gain
 mul-gain c = record { fits = product-fits (c .args .s) (c .args .n) (c .args .b) (c .pre) }
-
-gain-requires : tie.Need-gain-requires
-gain-requires c κs = search needs
 
 add-result : tie.Need-add-result
 add-result c = let l = left c in omega arith
@@ -30,4 +21,4 @@ returns : tie.Need-returns
 returns c = left c
 
 pub half-spec : {M : Type 1} → statement M
-half-spec = tie.close (tie.spec add-m sub-gain mul-gain gain-requires add-result returns)
+half-spec = tie.close (tie.spec (λ c. search needs) (λ c. search needs) mul-gain (λ c κs. search needs) add-result returns)

@@ -14,18 +14,6 @@ use Rattle.root.proofs.half_by.Tie as tie
 between : (s : tie.Start) → let a = s .args in getD (now (a .ends)) (a .n + a .b - 1) 0 ≡ upperEnd (a .n + a .b - 1)
 between s = s .pre .0 .each _ (omega arith)
 
-add-m : tie.Need-add-m
-add-m c = search needs
-
-sub-if1 : tie.Need-sub-if1
-sub-if1 c = search needs
-
-mul-if1 : tie.Need-mul-if1
-mul-if1 c = search needs
-
-shared-slice-read-if1 : tie.Need-shared-slice-read-if1
-shared-slice-read-if1 c = search needs
-
 returns : tie.Need-returns
 returns c =
     let s = c .before .before in
@@ -39,4 +27,4 @@ returns-2 c =
     lower (a .s) (a .n) (a .b) (s .pre .1) (omega (arith, between s, c .if1 .left))
 
 pub half-by-spec : {M : Type 1} → statement M
-half-by-spec = tie.close (tie.spec add-m sub-if1 mul-if1 shared-slice-read-if1 returns returns-2)
+half-by-spec = tie.close (tie.spec (λ c. search needs) (λ c. search needs) (λ c. search needs) (λ c. search needs) returns returns-2)

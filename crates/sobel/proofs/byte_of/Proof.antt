@@ -5,14 +5,8 @@ use Rattle.rules.specs.Root.{sobelByte}
 use Rattle.sobel.proofs.byte_of.Statement.{statement}
 use Rattle.sobel.proofs.byte_of.Tie as tie
 
-energy-of-requires : tie.Need-energy-of-requires
-energy-of-requires c κs = search needs
-
-root-byte-requires : tie.Need-root-byte-requires
-root-byte-requires c κs = search needs
-
 returns : tie.Need-returns
 returns c = c .root-byte .ensures ∙ ap sobelByte (c .before .energy-of .ensures)
 
 pub byte-of-spec : {M : Type 1} → statement M
-byte-of-spec = tie.close (tie.spec energy-of-requires root-byte-requires returns)
+byte-of-spec = tie.close (tie.spec (λ c κs. search needs) (λ c κs. search needs) returns)

@@ -25,17 +25,8 @@ mul-a c = let r = row (c .before .before .before) in omega arith
 add-e : tie.Need-add-e
 add-e c = let r = row (c .before .before .before .before) in omega arith
 
-inner-count-requires : tie.Need-inner-count-requires
-inner-count-requires c κs = search needs
-
 outer-bytes-requires : tie.Need-outer-bytes-requires
 outer-bytes-requires c κs = let r = row (c .before .before .before .before .before .before .before) in search needs
-
-same-length : tie.Need-same-length
-same-length c = search needs
-
-returns : tie.Need-returns
-returns c = search needs
 
 add-first : tie.Need-add-first
 add-first c = let r = inner c in omega arith
@@ -51,9 +42,6 @@ inner-bytes-requires c κs = let r = inner (c .before .before .before .before .b
 
 outer-bytes-requires-3 : tie.Need-outer-bytes-requires-3
 outer-bytes-requires-3 c κs = let r = inner (c .before .before .before .before .before .before .before .before .before) in search needs
-
-same-length-2 : tie.Need-same-length-2
-same-length-2 c = search needs
 
 returns-2 : tie.Need-returns-2
 returns-2 c =
@@ -74,14 +62,14 @@ byte-row-spec =
     (tie.spec
     mul-a
     add-e
-    inner-count-requires
+    (λ c κs. search needs)
     outer-bytes-requires
-    same-length
-    returns
+    (λ c. search needs)
+    (λ c. search needs)
     add-first
     add-last
     outer-bytes-requires-2
     inner-bytes-requires
     outer-bytes-requires-3
-    same-length-2
+    (λ c. search needs)
     returns-2)

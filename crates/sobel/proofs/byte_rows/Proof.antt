@@ -21,15 +21,6 @@ abbrev μ-loop : tie.MeasureT-loop
 loop-holds : tie.Need-loop-holds Inv-loop μ-loop
 loop-holds c = (zero≤, refl, rows-start (c .before .before .args .size) _ _)
 
-byte-row-requires : tie.Need-byte-row-requires Inv-loop μ-loop
-byte-row-requires c κs = search needs
-
-add-y : tie.Need-add-y Inv-loop μ-loop
-add-y c = search needs
-
-loop-less : tie.Need-loop-less Inv-loop μ-loop
-loop-less c = search needs
-
 loop-again : tie.Need-loop-again Inv-loop μ-loop
 loop-again c =
     let m = c .before .before .before .before .before .before in
@@ -39,9 +30,6 @@ loop-again c =
       search needs,
       rows-more (a .size) (byteOf (a .size) (a .border) (now (a .pixels))) (now (a .out)) (m .loop .y) (m .loop .out) _ (omega arith) (s .pre .1) (m .loop .inv .2) (c .before .before .byte-row .ensures),
     )
-
-same-length : tie.Need-same-length Inv-loop μ-loop
-same-length c = search needs
 
 returns : tie.Need-returns Inv-loop μ-loop
 returns c =
@@ -57,9 +45,9 @@ byte-rows-spec =
     Inv-loop
     μ-loop
     loop-holds
-    byte-row-requires
-    add-y
-    loop-less
+    (λ c κs. search needs)
+    (λ c. search needs)
+    (λ c. search needs)
     loop-again
-    same-length
+    (λ c. search needs)
     returns)

@@ -20,14 +20,8 @@ small-y c =
     let k = c .before .before in
     rw (c .gy-of .ensures) (gy-within (now (k .before .args .nine)) (λ i. omega (arith, k .shared-slice-known .given i)))
 
-gx-of-requires : tie.Need-gx-of-requires
-gx-of-requires c κs = search needs
-
 cast-x : tie.Need-cast-x
 cast-x c = wide-fits (c .gx-of .result) (small-x c)
-
-gy-of-requires : tie.Need-gy-of-requires
-gy-of-requires c κs = search needs
 
 cast-y : tie.Need-cast-y
 cast-y c = wide-fits (c .gy-of .result) (small-y c)
@@ -53,9 +47,9 @@ pub energy-of-spec : {M : Type 1} → statement M
 energy-of-spec =
     tie.close
     (tie.spec
-    gx-of-requires
+    (λ c κs. search needs)
     cast-x
-    gy-of-requires
+    (λ c κs. search needs)
     cast-y
     mul-result
     mul-result-2

@@ -26,20 +26,8 @@ mul-a c = let r = row (c .before .before) in omega arith
 add-e : tie.Need-add-e
 add-e c = let r = row (c .before .before .before) in omega arith
 
-inner-count-requires : tie.Need-inner-count-requires
-inner-count-requires c κs = search needs
-
 outer-gradients-requires : tie.Need-outer-gradients-requires
 outer-gradients-requires c κs = let r = row (c .before .before .before .before .before .before .before) in search needs
-
-same-length : tie.Need-same-length
-same-length c = search needs
-
-same-length-2 : tie.Need-same-length-2
-same-length-2 c = search needs
-
-returns : tie.Need-returns
-returns c = search needs
 
 add-first : tie.Need-add-first
 add-first c = let r = inner c in omega arith
@@ -55,12 +43,6 @@ inner-gradients-requires c κs = let r = inner (c .before .before .before .befor
 
 outer-gradients-requires-3 : tie.Need-outer-gradients-requires-3
 outer-gradients-requires-3 c κs = let r = inner (c .before .before .before .before .before .before .before .before .before .before .before .before) in search needs
-
-same-length-3 : tie.Need-same-length-3
-same-length-3 c = search needs
-
-same-length-4 : tie.Need-same-length-4
-same-length-4 c = search needs
 
 returns-2 : tie.Need-returns-2
 returns-2 c =
@@ -86,16 +68,16 @@ gradient-row-spec =
     (tie.spec
     mul-a
     add-e
-    inner-count-requires
+    (λ c κs. search needs)
     outer-gradients-requires
-    same-length
-    same-length-2
-    returns
+    (λ c. search needs)
+    (λ c. search needs)
+    (λ c. search needs)
     add-first
     add-last
     outer-gradients-requires-2
     inner-gradients-requires
     outer-gradients-requires-3
-    same-length-3
-    same-length-4
+    (λ c. search needs)
+    (λ c. search needs)
     returns-2)

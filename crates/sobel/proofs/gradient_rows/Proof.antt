@@ -22,15 +22,6 @@ abbrev μ-loop : tie.MeasureT-loop
 loop-holds : tie.Need-loop-holds Inv-loop μ-loop
 loop-holds c = let d = c .before .args .size in (zero≤, refl, refl, rows-start d _ _, rows-start d _ _)
 
-gradient-row-requires : tie.Need-gradient-row-requires Inv-loop μ-loop
-gradient-row-requires c κs = search needs
-
-add-y : tie.Need-add-y Inv-loop μ-loop
-add-y c = search needs
-
-loop-less : tie.Need-loop-less Inv-loop μ-loop
-loop-less c = search needs
-
 loop-again : tie.Need-loop-again Inv-loop μ-loop
 loop-again c =
     let m = c .before .before .before .before .before .before .before in
@@ -43,12 +34,6 @@ loop-again c =
       rows-more (a .size) (gxOf (a .size) (a .border) (now (a .pixels))) (now (a .gx)) (m .loop .y) (m .loop .gx) _ (omega arith) (s .pre .1) (m .loop .inv .3) (g .ensures .0),
       rows-more (a .size) (gyOf (a .size) (a .border) (now (a .pixels))) (now (a .gy)) (m .loop .y) (m .loop .gy) _ (omega arith) (s .pre .2) (m .loop .inv .4) (g .ensures .1),
     )
-
-same-length : tie.Need-same-length Inv-loop μ-loop
-same-length c = search needs
-
-same-length-2 : tie.Need-same-length-2 Inv-loop μ-loop
-same-length-2 c = search needs
 
 returns : tie.Need-returns Inv-loop μ-loop
 returns c =
@@ -64,10 +49,10 @@ gradient-rows-spec =
     Inv-loop
     μ-loop
     loop-holds
-    gradient-row-requires
-    add-y
-    loop-less
+    (λ c κs. search needs)
+    (λ c. search needs)
+    (λ c. search needs)
     loop-again
-    same-length
-    same-length-2
+    (λ c. search needs)
+    (λ c. search needs)
     returns)

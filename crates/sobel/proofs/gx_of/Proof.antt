@@ -4,14 +4,8 @@ use Rattle.sobel.proofs.Components.{gx-weights}
 use Rattle.sobel.proofs.gx_of.Statement.{statement}
 use Rattle.sobel.proofs.gx_of.Tie as tie
 
-slice-aggregate-weigh : tie.Need-slice-aggregate-weigh
-slice-aggregate-weigh c = search needs
-
 weigh-requires : tie.Need-weigh-requires
 weigh-requires c κs = (gx-weights, search needs)
 
-returns : tie.Need-returns
-returns c = search needs
-
 pub gx-of-spec : {M : Type 1} → statement M
-gx-of-spec = tie.close (tie.spec slice-aggregate-weigh weigh-requires returns)
+gx-of-spec = tie.close (tie.spec (λ c. search needs) weigh-requires (λ c. search needs))

@@ -4,14 +4,8 @@ use Rattle.sobel.proofs.Components.{gy-weights}
 use Rattle.sobel.proofs.gy_of.Statement.{statement}
 use Rattle.sobel.proofs.gy_of.Tie as tie
 
-slice-aggregate-weigh : tie.Need-slice-aggregate-weigh
-slice-aggregate-weigh c = search needs
-
 weigh-requires : tie.Need-weigh-requires
 weigh-requires c κs = (gy-weights, search needs)
 
-returns : tie.Need-returns
-returns c = search needs
-
 pub gy-of-spec : {M : Type 1} → statement M
-gy-of-spec = tie.close (tie.spec slice-aggregate-weigh weigh-requires returns)
+gy-of-spec = tie.close (tie.spec (λ c. search needs) weigh-requires (λ c. search needs))

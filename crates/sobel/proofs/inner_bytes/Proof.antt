@@ -20,24 +20,6 @@ abbrev μ-loop : tie.MeasureT-loop
 loop-holds : tie.Need-loop-holds Inv-loop μ-loop
 loop-holds c = (c .before .before .pre .0 .from, refl, omega arith, write-start _ _ _)
 
-nine-inside-requires : tie.Need-nine-inside-requires Inv-loop μ-loop
-nine-inside-requires c κs = search needs
-
-slice-aggregate-byte-of : tie.Need-slice-aggregate-byte-of Inv-loop μ-loop
-slice-aggregate-byte-of c = search needs
-
-byte-of-requires : tie.Need-byte-of-requires Inv-loop μ-loop
-byte-of-requires c κs = search needs
-
-slice-write-out : tie.Need-slice-write-out Inv-loop μ-loop
-slice-write-out c = search needs
-
-add-i : tie.Need-add-i Inv-loop μ-loop
-add-i c = search needs
-
-loop-less : tie.Need-loop-less Inv-loop μ-loop
-loop-less c = search needs
-
 loop-again : tie.Need-loop-again Inv-loop μ-loop
 loop-again c =
     let m = c .before .before .before .before in
@@ -50,9 +32,6 @@ loop-again c =
       write-more (a .a) (byteInside (now (a .pixels)) (a .width)) (now (a .out)) (l .i) (l .out) _ (l .inv .2) h (l .inv .3)
           (c .byte-of .ensures ∙ ap nineByte (c .before .before .nine-inside .ensures)),
     )
-
-same-length : tie.Need-same-length Inv-loop μ-loop
-same-length c = search needs
 
 returns : tie.Need-returns Inv-loop μ-loop
 returns c =
@@ -67,12 +46,12 @@ inner-bytes-spec =
     Inv-loop
     μ-loop
     loop-holds
-    nine-inside-requires
-    slice-aggregate-byte-of
-    byte-of-requires
-    slice-write-out
-    add-i
-    loop-less
+    (λ c κs. search needs)
+    (λ c. search needs)
+    (λ c κs. search needs)
+    (λ c. search needs)
+    (λ c. search needs)
+    (λ c. search needs)
     loop-again
-    same-length
+    (λ c. search needs)
     returns)

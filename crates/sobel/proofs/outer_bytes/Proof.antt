@@ -36,21 +36,6 @@ div-nine-about c = let p = about (c .before .before) .column in omega arith
 nine-about-requires : tie.Need-nine-about-requires Inv-loop μ-loop
 nine-about-requires c κs = about (c .before .before)
 
-slice-aggregate-outer-byte : tie.Need-slice-aggregate-outer-byte Inv-loop μ-loop
-slice-aggregate-outer-byte c = search needs
-
-outer-byte-requires : tie.Need-outer-byte-requires Inv-loop μ-loop
-outer-byte-requires c κs = search needs
-
-slice-write-out : tie.Need-slice-write-out Inv-loop μ-loop
-slice-write-out c = search needs
-
-add-i : tie.Need-add-i Inv-loop μ-loop
-add-i c = search needs
-
-loop-less : tie.Need-loop-less Inv-loop μ-loop
-loop-less c = search needs
-
 loop-again : tie.Need-loop-again Inv-loop μ-loop
 loop-again c =
     let m = c .before .before .before .before .before .before in
@@ -63,9 +48,6 @@ loop-again c =
       write-more (a .a) (byteOf (a .size) (a .border) (now (a .pixels))) (now (a .out)) (l .i) (l .out) _ (l .inv .2) h (l .inv .3)
           (c .outer-byte .ensures ∙ ap nineByte (c .before .before .nine-about .ensures) ∙ byte-about-is (a .size) (a .border) (now (a .pixels)) _ _),
     )
-
-same-length : tie.Need-same-length Inv-loop μ-loop
-same-length c = search needs
 
 returns : tie.Need-returns Inv-loop μ-loop
 returns c =
@@ -83,11 +65,11 @@ outer-bytes-spec =
     rem-nine-about
     div-nine-about
     nine-about-requires
-    slice-aggregate-outer-byte
-    outer-byte-requires
-    slice-write-out
-    add-i
-    loop-less
+    (λ c. search needs)
+    (λ c κs. search needs)
+    (λ c. search needs)
+    (λ c. search needs)
+    (λ c. search needs)
     loop-again
-    same-length
+    (λ c. search needs)
     returns)

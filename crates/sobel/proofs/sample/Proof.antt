@@ -8,27 +8,6 @@ use Rattle.border.proofs.Reading.{read-is}
 use Rattle.sobel.proofs.sample.Statement.{statement}
 use Rattle.sobel.proofs.sample.Tie as tie
 
-add-place : tie.Need-add-place
-add-place c = search needs
-
-cast-place : tie.Need-cast-place
-cast-place c = search needs
-
-place-requires : tie.Need-place-requires
-place-requires c κs = search needs
-
-add-place-2 : tie.Need-add-place-2
-add-place-2 c = search needs
-
-cast-place-2 : tie.Need-cast-place-2
-cast-place-2 c = search needs
-
-place-requires-2 : tie.Need-place-requires-2
-place-requires-2 c κs = search needs
-
-read-requires : tie.Need-read-requires
-read-requires c κs = search needs
-
 returns : tie.Need-returns
 returns c =
     let s = c .before .before .before .before in
@@ -42,11 +21,11 @@ pub sample-spec : {M : Type 1} → statement M
 sample-spec =
     tie.close
     (tie.spec
-    add-place
-    cast-place
-    place-requires
-    add-place-2
-    cast-place-2
-    place-requires-2
-    read-requires
+    (λ c. search needs)
+    (λ c. search needs)
+    (λ c κs. search needs)
+    (λ c. search needs)
+    (λ c. search needs)
+    (λ c κs. search needs)
+    (λ c κs. search needs)
     returns)

@@ -8,9 +8,6 @@ use Rattle.border.proofs.Refusing.{Passed, early-is, passed, no-room, has-room}
 use Rattle.sobel.proofs.sobel_gradients.Statement.{statement}
 use Rattle.sobel.proofs.sobel_gradients.Tie as tie
 
-picture-refusal-requires : tie.Need-picture-refusal-requires
-picture-refusal-requires c κs = search needs
-
 returns : tie.Need-returns
 unfolding sobelGradients
 returns c =
@@ -38,12 +35,6 @@ returns-3 c =
 gradient-rows-requires : tie.Need-gradient-rows-requires
 gradient-rows-requires c κs = let p = accepted (c .before .before .before .before) .picture in search needs
 
-same-length : tie.Need-same-length
-same-length c = search needs
-
-same-length-2 : tie.Need-same-length-2
-same-length-2 c = search needs
-
 returns-4 : tie.Need-returns-4
 unfolding sobelGradients
 returns-4 c =
@@ -58,11 +49,11 @@ pub sobel-gradients-spec : {M : Type 1} → statement M
 sobel-gradients-spec =
     tie.close
     (tie.spec
-    picture-refusal-requires
+    (λ c κs. search needs)
     returns
     returns-2
     returns-3
     gradient-rows-requires
-    same-length
-    same-length-2
+    (λ c. search needs)
+    (λ c. search needs)
     returns-4)

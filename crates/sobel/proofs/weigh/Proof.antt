@@ -33,15 +33,6 @@ loop-holds : tie.Need-loop-holds Inv-loop μ-loop
 unfolding sumZ
 loop-holds c = (zero≤, zero≤, refl)
 
-mul-sum : tie.Need-mul-sum Inv-loop μ-loop
-mul-sum c = search needs
-
-shared-slice-copy-out-sum : tie.Need-shared-slice-copy-out-sum Inv-loop μ-loop
-shared-slice-copy-out-sum c = search needs
-
-shared-slice-read-sum : tie.Need-shared-slice-read-sum Inv-loop μ-loop
-shared-slice-read-sum c = search needs
-
 cast-sum : tie.Need-cast-sum Inv-loop μ-loop
 cast-sum c = byte-fits (now (S c .args .weights)) (now (S c .args .nine)) (S c .pre .0) (byte c) _
 
@@ -52,12 +43,6 @@ add-sum : tie.Need-add-sum Inv-loop μ-loop
 add-sum c =
     sum-fits (now (S c .args .weights)) (now (S c .args .nine)) (S c .pre .0) (byte c) (c .before .before .before .loop .j) _
     (c .before .before .loop-test .taken) (c .before .before .before .loop .inv .2)
-
-add-j : tie.Need-add-j Inv-loop μ-loop
-add-j c = search needs
-
-loop-less : tie.Need-loop-less Inv-loop μ-loop
-loop-less c = search needs
 
 loop-again : tie.Need-loop-again Inv-loop μ-loop
 loop-again c =
@@ -81,13 +66,13 @@ weigh-spec =
     Inv-loop
     μ-loop
     loop-holds
-    mul-sum
-    shared-slice-copy-out-sum
-    shared-slice-read-sum
+    (λ c. search needs)
+    (λ c. search needs)
+    (λ c. search needs)
     cast-sum
     mul-sum-2
     add-sum
-    add-j
-    loop-less
+    (λ c. search needs)
+    (λ c. search needs)
     loop-again
     returns)

@@ -11,9 +11,6 @@ returns c = let s = c .before in clamp-below (s .args .c) (s .args .side) (s .fi
 cast-n : tie.Need-cast-n
 cast-n c = cast-natural (c .before .args .c) (c .before .fits .c) (c .if1 .left)
 
-sub-result : tie.Need-sub-result
-sub-result c = search needs
-
 returns-2 : tie.Need-returns-2
 returns-2 c = let s = c .before .before in clamp-in (s .args .c) (s .args .side) _ (natural-of (s .args .c) (s .fits .c) (c .before .if1 .left) .is) (c .if2 .taken)
 
@@ -21,4 +18,4 @@ returns-3 : tie.Need-returns-3
 returns-3 c = let s = c .before .before in clamp-out (s .args .c) (s .args .side) _ (natural-of (s .args .c) (s .fits .c) (c .before .if1 .left) .is) (c .if2 .left)
 
 pub clamp-at-spec : {M : Type 1} → statement M
-clamp-at-spec = tie.close (tie.spec returns cast-n sub-result returns-2 returns-3)
+clamp-at-spec = tie.close (tie.spec returns cast-n (λ c. search needs) returns-2 returns-3)

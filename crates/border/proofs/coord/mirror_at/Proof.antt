@@ -15,15 +15,6 @@ use Rattle.border.proofs.coord.mirror_at.Tie as tie
 returns : tie.Need-returns
 returns c = rw (eq-eqb _ _ (c .if1 .taken))
 
-sub-period : tie.Need-sub-period
-sub-period c = search needs
-
-mul-period : tie.Need-mul-period
-mul-period c = search needs
-
-wrap-requires : tie.Need-wrap-requires
-wrap-requires c κs = search needs
-
 -- what the call gave, of the coordinate itself: a signed argument goes by its bits
 given : (c : tie.After-wrap) → c .wrap .result ≡ emod (c .before .before .args .c) (2 * (c .before .before .args .side - 1))
 given c = let s = c .before .before in rw (toZ-ofZ w64 (s .args .c) (s .fits .c)) at (c .wrap .ensures)
@@ -45,4 +36,4 @@ returns-3 c =
 
 pub mirror-at-spec : {M : Type 1} → statement M
 mirror-at-spec =
-    tie.close (tie.spec returns sub-period mul-period wrap-requires sub-result returns-2 returns-3)
+    tie.close (tie.spec returns (λ c. search needs) (λ c. search needs) (λ c κs. search needs) sub-result returns-2 returns-3)

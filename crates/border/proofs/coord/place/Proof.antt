@@ -6,26 +6,8 @@ use Rattle.border.proofs.Reading.{place-case}
 use Rattle.border.proofs.coord.place.Statement.{statement}
 use Rattle.border.proofs.coord.place.Tie as tie
 
-cast-resolve-coord : tie.Need-cast-resolve-coord
-cast-resolve-coord c = search needs
-
-cast-resolve-coord-2 : tie.Need-cast-resolve-coord-2
-cast-resolve-coord-2 c = search needs
-
 sub-resolve-coord : tie.Need-sub-resolve-coord
 sub-resolve-coord c = diff-fits (c .args .at) (c .args .half) (omega arith) (omega arith)
-
-resolve-coord-requires : tie.Need-resolve-coord-requires
-resolve-coord-requires c κs = search needs
-
-enum-known-i : tie.Need-enum-known-i
-enum-known-i c = search needs
-
-enum-told : tie.Need-enum-told
-enum-told c = search needs
-
-enum-told-2 : tie.Need-enum-told-2
-enum-told-2 c = search needs
 
 returns : tie.Need-returns
 returns c =
@@ -49,13 +31,13 @@ pub place-spec : {M : Type 1} → statement M
 place-spec =
     tie.close
     (tie.spec
-    cast-resolve-coord
-    cast-resolve-coord-2
+    (λ c. search needs)
+    (λ c. search needs)
     sub-resolve-coord
-    resolve-coord-requires
-    enum-known-i
-    enum-told
-    enum-told-2
+    (λ c κs. search needs)
+    (λ c. search needs)
+    (λ c. search needs)
+    (λ c. search needs)
     returns
     returns-2
     returns-3)

@@ -7,24 +7,6 @@ use Rattle.rules.specs.declared.Coord.the-variants.{At}
 use Rattle.border.proofs.coord.resolve.Statement.{statement}
 use Rattle.border.proofs.coord.resolve.Tie as tie
 
-enum-told : tie.Need-enum-told
-enum-told c = search needs
-
-zero-at-requires : tie.Need-zero-at-requires
-zero-at-requires c κs = search needs
-
-enum-told-2 : tie.Need-enum-told-2
-enum-told-2 c = search needs
-
-clamp-at-requires : tie.Need-clamp-at-requires
-clamp-at-requires c κs = search needs
-
-enum-told-3 : tie.Need-enum-told-3
-enum-told-3 c = search needs
-
-mirror-at-requires : tie.Need-mirror-at-requires
-mirror-at-requires c κs = search needs
-
 returns : tie.Need-returns
 returns c =
     let s = c .before .before .before in
@@ -44,12 +26,12 @@ pub resolve-spec : {M : Type 1} → statement M
 resolve-spec =
     tie.close
     (tie.spec
-    enum-told
-    zero-at-requires
-    enum-told-2
-    clamp-at-requires
-    enum-told-3
-    mirror-at-requires
+    (λ c. search needs)
+    (λ c κs. search needs)
+    (λ c. search needs)
+    (λ c κs. search needs)
+    (λ c. search needs)
+    (λ c κs. search needs)
     returns
     returns-2
     returns-3)

@@ -17,9 +17,6 @@ returns-2 : tie.Need-returns-2
 unfolding resolveCoord
 returns-2 c = simp (ne-eqb _ _ (c .before .if1 .left), lt-ltb _ _ (c .if2 .taken))
 
-resolve-requires : tie.Need-resolve-requires
-resolve-requires c κs = search needs
-
 returns-3 : tie.Need-returns-3
 unfolding resolveCoord
 returns-3 c =
@@ -29,4 +26,4 @@ returns-3 c =
     (ap coordSays (rw (toZ-ofZ w64 (s .args .coord) (s .fits .coord)) at (c .resolve .ensures)))
 
 pub resolve-coord-spec : {M : Type 1} → statement M
-resolve-coord-spec = tie.close (tie.spec returns returns-2 resolve-requires returns-3)
+resolve-coord-spec = tie.close (tie.spec returns returns-2 (λ c κs. search needs) returns-3)

@@ -12,9 +12,6 @@ use Rattle.border.proofs.coord.wrap.Tie as tie
 small : (s : tie.Start) → s .args .p < 2 ^ 62
 small s = omega arith
 
-cast-q : tie.Need-cast-q
-cast-q c = search needs
-
 rem-r : tie.Need-rem-r
 rem-r c = (c .pre .0, rem-fits (c .args .c) (c .args .p) (c .fits .c) (c .pre .0) (small c))
 
@@ -41,4 +38,4 @@ returns-2 c = let s = c .before in ap natAbs (rem-is (s .args .c) (s .args .p) (
 
 pub wrap-spec : {M : Type 1} → statement M
 wrap-spec =
-    tie.close (tie.spec cast-q rem-r add-result cast-result cast-result-2 returns returns-2)
+    tie.close (tie.spec (λ c. search needs) rem-r add-result cast-result cast-result-2 returns returns-2)

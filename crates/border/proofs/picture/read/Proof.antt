@@ -16,9 +16,6 @@ use Rattle.border.proofs.Refusing.{passed}
 use Rattle.border.proofs.picture.read.Statement.{statement}
 use Rattle.border.proofs.picture.read.Tie as tie
 
-picture-refusal-requires : tie.Need-picture-refusal-requires
-picture-refusal-requires c κs = search needs
-
 returns : tie.Need-returns
 unfolding readIn
 returns c = rw (← c .before .picture-refusal .ensures, ne-eqb _ _ (c .if1 .taken))
@@ -69,7 +66,7 @@ pub read-spec : {M : Type 1} → statement M
 read-spec =
     tie.close
     (tie.spec
-    picture-refusal-requires
+    (λ c κs. search needs)
     returns
     returns-2
     returns-3

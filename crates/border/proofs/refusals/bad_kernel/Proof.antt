@@ -10,14 +10,8 @@ use Rattle.rules.proofs.Rows.{count-off}
 use Rattle.border.proofs.refusals.bad_kernel.Statement.{statement}
 use Rattle.border.proofs.refusals.bad_kernel.Tie as tie
 
-bad-count-requires : tie.Need-bad-count-requires
-bad-count-requires c κs = search needs
-
 returns : tie.Need-returns
 returns c = rw (sym (c .before .bad-count .ensures) ∙ c .if1 .taken)
-
-bad-count-requires-2 : tie.Need-bad-count-requires-2
-bad-count-requires-2 c κs = search needs
 
 -- the width passed its test, and the height
 fine-width : (c : tie.Else1) → countRow maxKernel (c .before .before .args .kernel .width) .applies ≡ false
@@ -39,4 +33,4 @@ returns-3 : tie.Need-returns-3
 returns-3 c = let e = c .before in rw (fine-width (e .before .before), fine-height e)
 
 pub bad-kernel-spec : {M : Type 1} → statement M
-bad-kernel-spec = tie.close (tie.spec bad-count-requires returns bad-count-requires-2 returns-2 mul-result returns-3)
+bad-kernel-spec = tie.close (tie.spec (λ c κs. search needs) returns (λ c κs. search needs) returns-2 mul-result returns-3)

@@ -10,9 +10,6 @@ use Rattle.border.proofs.Refusing.{Passed, Joined, refused-early, passe
 use Rattle.border.proofs.refusals.kernel_refusal.Statement.{statement}
 use Rattle.border.proofs.refusals.kernel_refusal.Tie as tie
 
-picture-refusal-requires : tie.Need-picture-refusal-requires
-picture-refusal-requires c κs = search needs
-
 -- the table of this call
 module _ (s : tie.Start) where
   number : let a = s .args in Joined (a .size) (now (a .pixels)) (badKernel (a .kernel) (length (now (a .weights)))) (weightRow (now (a .weights)) .applies) (roomRow (a .size) (now (a .out)) .applies) (first (kernelRows (a .size) (a .kernel) (now (a .pixels)) (now (a .weights)) (now (a .out))))
@@ -20,9 +17,6 @@ module _ (s : tie.Start) where
 
 returns : tie.Need-returns
 returns c = refused-early _ (number (c .before .before .before .before .before)) (c .before .picture-refusal .ensures) (c .if1 .taken)
-
-bad-kernel-requires : tie.Need-bad-kernel-requires
-bad-kernel-requires c κs = search needs
 
 -- the picture is not refused
 module _ (c : tie.Else1) where
@@ -37,9 +31,6 @@ returns-2 c =
     let e = c .before .before in
     count-is (picture e) (number (S e))
     (sym (c .before .bad-kernel .ensures) ∙ c .if2 .taken)
-
-bad-weight-requires : tie.Need-bad-weight-requires
-bad-weight-requires c κs = search needs
 
 -- nor the kernel's sides
 fine : (c : tie.Else2) → let a = S (c .before .before) .args in badKernel (a .kernel) (length (now (a .weights))) ≡ false
@@ -74,11 +65,11 @@ pub kernel-refusal-spec : {M : Type 1} → statement M
 kernel-refusal-spec =
     tie.close
     (tie.spec
-    picture-refusal-requires
+    (λ c κs. search needs)
     returns
-    bad-kernel-requires
+    (λ c κs. search needs)
     returns-2
-    bad-weight-requires
+    (λ c κs. search needs)
     returns-3
     returns-4
     returns-5)

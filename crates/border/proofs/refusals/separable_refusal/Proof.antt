@@ -10,9 +10,6 @@ use Rattle.border.proofs.Refusing.{Passed, Joined, refused-early, passe
 use Rattle.border.proofs.refusals.separable_refusal.Statement.{statement}
 use Rattle.border.proofs.refusals.separable_refusal.Tie as tie
 
-picture-refusal-requires : tie.Need-picture-refusal-requires
-picture-refusal-requires c κs = search needs
-
 -- the table of this call
 module _ (s : tie.Start) where
   number : let a = s .args in Joined (a .size) (now (a .pixels)) (badTaps (a .kernel) (length (now (a .horizontal))) (length (now (a .vertical)))) (weightRow (now (a .horizontal)) .applies || weightRow (now (a .vertical)) .applies) (roomRow (a .size) (now (a .work)) .applies || roomRow (a .size) (now (a .out)) .applies) (first (separableRows (a .size) (a .kernel) (now (a .pixels)) (now (a .horizontal)) (now (a .vertical)) (now (a .work)) (now (a .out))))
@@ -20,9 +17,6 @@ module _ (s : tie.Start) where
 
 returns : tie.Need-returns
 returns c = refused-early _ (number (c .before .before .before .before .before .before .before)) (c .before .picture-refusal .ensures) (c .if1 .taken)
-
-bad-taps-requires : tie.Need-bad-taps-requires
-bad-taps-requires c κs = search needs
 
 -- the picture is not refused
 module _ (c : tie.Else1) where
@@ -37,12 +31,6 @@ returns-2 c =
     let e = c .before .before in
     count-is (picture e) (number (S e))
     (sym (c .before .bad-taps .ensures) ∙ c .if2 .taken)
-
-bad-weight-requires : tie.Need-bad-weight-requires
-bad-weight-requires c κs = search needs
-
-bad-weight-requires-2 : tie.Need-bad-weight-requires-2
-bad-weight-requires-2 c κs = search needs
 
 -- nor the numbers of taps
 fine : (c : tie.Else2) → let a = S (c .before .before) .args in badTaps (a .kernel) (length (now (a .horizontal))) (length (now (a .vertical))) ≡ false
@@ -80,12 +68,12 @@ pub separable-refusal-spec : {M : Type 1} → statement M
 separable-refusal-spec =
     tie.close
     (tie.spec
-    picture-refusal-requires
+    (λ c κs. search needs)
     returns
-    bad-taps-requires
+    (λ c κs. search needs)
     returns-2
-    bad-weight-requires
-    bad-weight-requires-2
+    (λ c κs. search needs)
+    (λ c κs. search needs)
     returns-3
     returns-4
     returns-5)

@@ -14,14 +14,8 @@ is-small c = rw (c .held .ensures) (small-held (c .before .args .v))
 is-same : (c : tie.After-held) → toByte (c .held .result) ≡ toByte (c .before .args .v)
 is-same c = ap toByte (c .held .ensures) ∙ held-same (c .before .args .v)
 
-held-requires : tie.Need-held-requires
-held-requires c κs = search needs
-
 near-requires : tie.Need-near-requires
 near-requires c κs = is-small c
-
-half-above-requires : tie.Need-half-above-requires
-half-above-requires c κs = search needs
 
 add-result : tie.Need-add-result
 add-result c = omega (arith, rounds-under (is-small (c .before .before .before)) (c .before .before .near .ensures) (rw (c .before .half-above .ensures) at (c .if1 .left)))
@@ -35,4 +29,4 @@ returns-2 c = rounds-up (is-small (c .before .before .before)) (c .before .befor
 pub quantize-spec : {M : Type 1} → statement M
 quantize-spec =
     tie.close
-    (tie.spec held-requires near-requires half-above-requires add-result returns returns-2)
+    (tie.spec (λ c κs. search needs) near-requires (λ c κs. search needs) add-result returns returns-2)

@@ -10,29 +10,17 @@ use Rattle.filters.proofs.Convolving.{kernel-pass}
 use Rattle.filters.proofs.convolution.apply_kernel.Statement.{statement}
 use Rattle.filters.proofs.convolution.apply_kernel.Tie as tie
 
-kernel-refusal-requires : tie.Need-kernel-refusal-requires
-kernel-refusal-requires c κs = search needs
-
-same-length : tie.Need-same-length
-same-length c = search needs
-
 returns : tie.Need-returns
 unfolding applyKernel
 returns c =
     let a = c .before .before .before .before .before .before .args in
     refused-is (first (kernelRows (a .size) (a .kernel) (now (a .pixels)) (now (a .weights)) (now (a .out)))) _ (c .before .kernel-refusal .ensures) (painted (a .size) (convolvedAt (a .size) (a .kernel) (a .border) (now (a .pixels)) (now (a .weights))) (now (a .out))) (now (a .out)) (c .if1 .taken)
 
-slice-aggregate-convolve : tie.Need-slice-aggregate-convolve
-slice-aggregate-convolve c = search needs
-
 convolve-requires : tie.Need-convolve-requires
 convolve-requires c κs =
     let e = c .before .before in
     let a = e .before .before .before .before .before .before .args in
     (kernel-pass (a .size) (a .kernel) (now (a .pixels)) (now (a .weights)) (now (a .out)) (sym (e .before .kernel-refusal .ensures) ∙ e .if1 .left), search needs)
-
-same-length-2 : tie.Need-same-length-2
-same-length-2 c = search needs
 
 returns-2 : tie.Need-returns-2
 unfolding applyKernel
@@ -46,10 +34,10 @@ pub apply-kernel-spec : {M : Type 1} → statement M
 apply-kernel-spec =
     tie.close
     (tie.spec
-    kernel-refusal-requires
-    same-length
+    (λ c κs. search needs)
+    (λ c. search needs)
     returns
-    slice-aggregate-convolve
+    (λ c. search needs)
     convolve-requires
-    same-length-2
+    (λ c. search needs)
     returns-2)

@@ -21,15 +21,6 @@ module _ (e : tie.Else1) where
   granted : let a = S .args in Taps (a .size) (a .kernel) (now (a .pixels)) (now (a .horizontal)) (now (a .vertical)) (now (a .work)) (now (a .out)) fine
   granted = let a = S .args in taps (a .size) (a .kernel) (now (a .pixels)) (now (a .horizontal)) (now (a .vertical)) (now (a .work)) (now (a .out)) fine
 
-separable-refusal-requires : tie.Need-separable-refusal-requires
-separable-refusal-requires c κs = search needs
-
-same-length : tie.Need-same-length
-same-length c = search needs
-
-same-length-2 : tie.Need-same-length-2
-same-length-2 c = search needs
-
 returns : tie.Need-returns
 unfolding applySeparableKernel
 returns c =
@@ -39,9 +30,6 @@ returns c =
 horizontal-pass-requires : tie.Need-horizontal-pass-requires
 horizontal-pass-requires c κs = let e = c .before in let a = S e .args in row-pass (a .size) (a .kernel) (now (a .pixels)) (now (a .horizontal)) (now (a .vertical)) (now (a .work)) (now (a .out)) (fine e)
 
-slice-aggregate-vertical-pass : tie.Need-slice-aggregate-vertical-pass
-slice-aggregate-vertical-pass c = search needs
-
 vertical-pass-requires : tie.Need-vertical-pass-requires
 vertical-pass-requires c κs = let e = c .before .before .before .before .before .before .before in let a = S e .args in (column-pass (a .size) (a .kernel) (now (a .pixels)) (now (a .horizontal)) (now (a .vertical)) (now (a .work)) (now (a .out)) (fine e) _ (search needs), search needs)
 
@@ -50,12 +38,6 @@ mul-clear c = let h = granted (c .before .before .before .before .before .before
 
 clear-requires : tie.Need-clear-requires
 clear-requires c κs = let h = granted (c .before .before .before .before .before .before .before .before .before .before .before .before .before) in search needs
-
-same-length-3 : tie.Need-same-length-3
-same-length-3 c = search needs
-
-same-length-4 : tie.Need-same-length-4
-same-length-4 c = search needs
 
 returns-2 : tie.Need-returns-2
 unfolding applySeparableKernel
@@ -75,15 +57,15 @@ pub apply-separable-kernel-spec : {M : Type 1} → statement M
 apply-separable-kernel-spec =
     tie.close
     (tie.spec
-    separable-refusal-requires
-    same-length
-    same-length-2
+    (λ c κs. search needs)
+    (λ c. search needs)
+    (λ c. search needs)
     returns
     horizontal-pass-requires
-    slice-aggregate-vertical-pass
+    (λ c. search needs)
     vertical-pass-requires
     mul-clear
     clear-requires
-    same-length-3
-    same-length-4
+    (λ c. search needs)
+    (λ c. search needs)
     returns-2)

@@ -5,17 +5,8 @@ use Rattle.border.proofs.Reading.{placed-is}
 use Rattle.filters.proofs.sums.place_about.Statement.{statement}
 use Rattle.filters.proofs.sums.place_about.Tie as tie
 
-cast-place : tie.Need-cast-place
-cast-place c = search needs
-
-cast-place-2 : tie.Need-cast-place-2
-cast-place-2 c = search needs
-
-place-requires : tie.Need-place-requires
-place-requires c κs = search needs
-
 returns : tie.Need-returns
 returns c = let s = c .before in c .place .ensures ∙ placed-is (s .args .border) _ (s .args .side) (s .pre .0) (s .pre .1)
 
 pub place-about-spec : {M : Type 1} → statement M
-place-about-spec = tie.close (tie.spec cast-place cast-place-2 place-requires returns)
+place-about-spec = tie.close (tie.spec (λ c. search needs) (λ c. search needs) (λ c κs. search needs) returns)

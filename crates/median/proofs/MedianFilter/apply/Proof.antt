@@ -12,9 +12,6 @@ use Rattle.border.proofs.Refusing.{Passed, early-is, passed, no-room, has-room}
 use Rattle.median.proofs.MedianFilter.apply.Statement.{statement}
 use Rattle.median.proofs.MedianFilter.apply.Tie as tie
 
-picture-refusal-requires : tie.Need-picture-refusal-requires
-picture-refusal-requires c κs = search needs
-
 returns : tie.Need-returns
 unfolding median
 returns c =
@@ -24,9 +21,6 @@ returns c =
 -- the picture is not refused
 accepted : (c : tie.Else1) → let a = c .before .before .before .before .args in Passed (a .size) (now (a .pixels))
 accepted c = let a = c .before .before .before .before .args in passed (a .size) (now (a .pixels)) _ (c .before .picture-refusal .ensures) (c .if1 .left)
-
-bad-count-requires : tie.Need-bad-count-requires
-bad-count-requires c κs = search needs
 
 returns-2 : tie.Need-returns-2
 unfolding median
@@ -51,9 +45,6 @@ median-rows-requires c κs =
     let w = count-off maxWindow (e .before .before .before .before .args .self .size) (fine f) in
     search needs
 
-same-length : tie.Need-same-length
-same-length c = search needs
-
 returns-4 : tie.Need-returns-4
 unfolding median
 returns-4 c =
@@ -67,11 +58,11 @@ pub apply-spec : {M : Type 1} → statement M
 apply-spec =
     tie.close
     (tie.spec
-    picture-refusal-requires
+    (λ c κs. search needs)
     returns
-    bad-count-requires
+    (λ c κs. search needs)
     returns-2
     returns-3
     median-rows-requires
-    same-length
+    (λ c. search needs)
     returns-4)

@@ -8,9 +8,6 @@ use Rattle.border.proofs.Refusing.{Passed, early-is, passed, no-room, has-room}
 use Rattle.sobel.proofs.SobelFilter.apply.Statement.{statement}
 use Rattle.sobel.proofs.SobelFilter.apply.Tie as tie
 
-picture-refusal-requires : tie.Need-picture-refusal-requires
-picture-refusal-requires c κs = search needs
-
 returns : tie.Need-returns
 unfolding sobel
 returns c =
@@ -30,9 +27,6 @@ returns-2 c =
 byte-rows-requires : tie.Need-byte-rows-requires
 byte-rows-requires c κs = let p = accepted (c .before .before) .picture in search needs
 
-same-length : tie.Need-same-length
-same-length c = search needs
-
 returns-3 : tie.Need-returns-3
 unfolding sobel
 returns-3 c =
@@ -44,9 +38,9 @@ pub apply-spec : {M : Type 1} → statement M
 apply-spec =
     tie.close
     (tie.spec
-    picture-refusal-requires
+    (λ c κs. search needs)
     returns
     returns-2
     byte-rows-requires
-    same-length
+    (λ c. search needs)
     returns-3)
