@@ -20,6 +20,30 @@ abbrev μ-loop : tie.MeasureT-loop
 loop-holds : tie.Need-loop-holds Inv-loop μ-loop
 loop-holds c = (zero≤, refl, fill-start _ _)
 
+add-place : tie.Need-add-place Inv-loop μ-loop
+add-place c = search needs
+
+cast-place : tie.Need-cast-place Inv-loop μ-loop
+cast-place c = search needs
+
+cast-place-2 : tie.Need-cast-place-2 Inv-loop μ-loop
+cast-place-2 c = search needs
+
+place-requires : tie.Need-place-requires Inv-loop μ-loop
+place-requires c κs = search needs
+
+mul-rows : tie.Need-mul-rows Inv-loop μ-loop
+mul-rows c = search needs
+
+slice-write-rows : tie.Need-slice-write-rows Inv-loop μ-loop
+slice-write-rows c = search needs
+
+add-j : tie.Need-add-j Inv-loop μ-loop
+add-j c = search needs
+
+loop-less : tie.Need-loop-less Inv-loop μ-loop
+loop-less c = search needs
+
 loop-again : tie.Need-loop-again Inv-loop μ-loop
 loop-again c =
     let l = c .before .before .loop in
@@ -29,6 +53,9 @@ loop-again c =
       simp length-set (l .inv .1),
       fill-more (l .j) (rowPlace (a .size) (a .window) (a .border) (a .y)) (now (a .rows)) (l .rows) _ h (l .inv .2) (c .place .ensures),
     )
+
+same-length : tie.Need-same-length Inv-loop μ-loop
+same-length c = search needs
 
 returns : tie.Need-returns Inv-loop μ-loop
 returns c =
@@ -43,14 +70,14 @@ place-rows-spec =
     Inv-loop
     μ-loop
     loop-holds
-    (λ c. search needs)
-    (λ c. search needs)
-    (λ c. search needs)
-    (λ c κs. search needs)
-    (λ c. search needs)
-    (λ c. search needs)
-    (λ c. search needs)
-    (λ c. search needs)
+    add-place
+    cast-place
+    cast-place-2
+    place-requires
+    mul-rows
+    slice-write-rows
+    add-j
+    loop-less
     loop-again
-    (λ c. search needs)
+    same-length
     returns)

@@ -38,6 +38,24 @@ loop-holds : tie.Need-loop-holds Inv-loop μ-loop
 unfolding putAll tally
 loop-holds c = (zero≤, refl, refl, omega arith)
 
+mul-read : tie.Need-mul-read Inv-loop μ-loop
+mul-read c = search needs
+
+shared-slice-read-read : tie.Need-shared-slice-read-read Inv-loop μ-loop
+shared-slice-read-read c = search needs
+
+read-requires : tie.Need-read-requires Inv-loop μ-loop
+read-requires c κs = search needs
+
+cast-b : tie.Need-cast-b Inv-loop μ-loop
+cast-b c = search needs
+
+mul-counts : tie.Need-mul-counts Inv-loop μ-loop
+mul-counts c = search needs
+
+slice-read-counts : tie.Need-slice-read-counts Inv-loop μ-loop
+slice-read-counts c = search needs
+
 add-counts : tie.Need-add-counts Inv-loop μ-loop
 add-counts c =
     let k = c .before .before .before .before .before .before .before in
@@ -46,11 +64,23 @@ add-counts c =
     let e : getD (l .counts) b 0 ≡ getD (putAll (now (k .before .args .counts)) (column k) (l .j)) b 0 = ap (λ (t : List ℕ). getD t b 0) (l .inv .2) in
     omega (arith, put-small (column k) (now (k .before .args .counts)) (counted k) (l .j) b maxSide (k .before .pre .0 .small b))
 
+mul-counts-2 : tie.Need-mul-counts-2 Inv-loop μ-loop
+mul-counts-2 c = search needs
+
+slice-write-counts : tie.Need-slice-write-counts Inv-loop μ-loop
+slice-write-counts c = search needs
+
 one-more-requires : tie.Need-one-more-requires Inv-loop μ-loop
 one-more-requires c κs =
     let k = c .before .before .before .before .before .before .before in
     let l = c .before .before .before .before .loop in
     omega (arith, l .inv .3, tally-all (λ i. ltb (column k i) (k .before .args .value)) (l .j))
+
+add-j : tie.Need-add-j Inv-loop μ-loop
+add-j c = search needs
+
+loop-less : tie.Need-loop-less Inv-loop μ-loop
+loop-less c = search needs
 
 loop-again : tie.Need-loop-again Inv-loop μ-loop
 loop-again c =
@@ -63,6 +93,9 @@ loop-again c =
       put-more (column k) (now (a .counts)) (l .counts) (l .j) _ q (l .inv .2),
       omega (arith, c .one-more .ensures, l .inv .3, belows-more (column k) (now (a .counts)) (l .counts) (l .j) _ q (a .value)),
     )
+
+same-length : tie.Need-same-length Inv-loop μ-loop
+same-length c = search needs
 
 returns : tie.Need-returns Inv-loop μ-loop
 returns c =
@@ -77,18 +110,18 @@ put-column-spec =
     Inv-loop
     μ-loop
     loop-holds
-    (λ c. search needs)
-    (λ c. search needs)
-    (λ c κs. search needs)
-    (λ c. search needs)
-    (λ c. search needs)
-    (λ c. search needs)
+    mul-read
+    shared-slice-read-read
+    read-requires
+    cast-b
+    mul-counts
+    slice-read-counts
     add-counts
-    (λ c. search needs)
-    (λ c. search needs)
+    mul-counts-2
+    slice-write-counts
     one-more-requires
-    (λ c. search needs)
-    (λ c. search needs)
+    add-j
+    loop-less
     loop-again
-    (λ c. search needs)
+    same-length
     returns)

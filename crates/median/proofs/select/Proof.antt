@@ -37,6 +37,12 @@ loop-holds c = (c .pre .1 .byte, c .pre .1 .lower)
 sub-v : tie.Need-sub-v Inv-loop μ-loop Inv-loop2 μ-loop2
 sub-v c = down c .0
 
+mul-n : tie.Need-mul-n Inv-loop μ-loop Inv-loop2 μ-loop2
+mul-n c = search needs
+
+shared-slice-read-n : tie.Need-shared-slice-read-n Inv-loop μ-loop Inv-loop2 μ-loop2
+shared-slice-read-n c = search needs
+
 cast-n : tie.Need-cast-n Inv-loop μ-loop Inv-loop2 μ-loop2
 cast-n c = omega (arith, c .before .before .before .pre .0 .small (c .before .before .loop .v - 1))
 
@@ -49,11 +55,38 @@ loop-less c = omega (arith, down (c .before) .0)
 loop-again : tie.Need-loop-again Inv-loop μ-loop Inv-loop2 μ-loop2
 loop-again c = (omega arith, omega (arith, down (c .before) .1))
 
+loop2-holds : tie.Need-loop2-holds Inv-loop μ-loop Inv-loop2 μ-loop2
+loop2-holds c = search needs
+
+mul-if1 : tie.Need-mul-if1 Inv-loop μ-loop Inv-loop2 μ-loop2
+mul-if1 c = search needs
+
+shared-slice-read-if1 : tie.Need-shared-slice-read-if1 Inv-loop μ-loop Inv-loop2 μ-loop2
+shared-slice-read-if1 c = search needs
+
 cast-if1 : tie.Need-cast-if1 Inv-loop μ-loop Inv-loop2 μ-loop2
 cast-if1 c = omega (arith, c .before .before .before .before .pre .0 .small (c .before .loop2 .v))
 
 add-if1 : tie.Need-add-if1 Inv-loop μ-loop Inv-loop2 μ-loop2
 add-if1 c = omega (arith, c .before .before .before .before .pre .0 .small (c .before .loop2 .v), c .before .before .before .before .pre .3, c .before .loop2 .inv .2)
+
+mul-n-2 : tie.Need-mul-n-2 Inv-loop μ-loop Inv-loop2 μ-loop2
+mul-n-2 c = search needs
+
+shared-slice-read-n-2 : tie.Need-shared-slice-read-n-2 Inv-loop μ-loop Inv-loop2 μ-loop2
+shared-slice-read-n-2 c = search needs
+
+cast-n-2 : tie.Need-cast-n-2 Inv-loop μ-loop Inv-loop2 μ-loop2
+cast-n-2 c = search needs
+
+add-n : tie.Need-add-n Inv-loop μ-loop Inv-loop2 μ-loop2
+add-n c = search needs
+
+add-v : tie.Need-add-v Inv-loop μ-loop Inv-loop2 μ-loop2
+add-v c = search needs
+
+loop2-less : tie.Need-loop2-less Inv-loop μ-loop Inv-loop2 μ-loop2
+loop2-less c = search needs
 
 loop2-again : tie.Need-loop2-again Inv-loop μ-loop Inv-loop2 μ-loop2
 loop2-again c =
@@ -65,6 +98,9 @@ loop2-again c =
       c .before .if1 .taken,
     )
 
+returns : tie.Need-returns Inv-loop μ-loop Inv-loop2 μ-loop2
+returns c = search needs
+
 pub select-spec : {M : Type 1} → statement M
 select-spec =
     tie.close
@@ -75,22 +111,22 @@ select-spec =
     μ-loop2
     loop-holds
     sub-v
-    (λ c. search needs)
-    (λ c. search needs)
+    mul-n
+    shared-slice-read-n
     cast-n
     sub-n
     loop-less
     loop-again
-    (λ c. search needs)
-    (λ c. search needs)
-    (λ c. search needs)
+    loop2-holds
+    mul-if1
+    shared-slice-read-if1
     cast-if1
     add-if1
-    (λ c. search needs)
-    (λ c. search needs)
-    (λ c. search needs)
-    (λ c. search needs)
-    (λ c. search needs)
-    (λ c. search needs)
+    mul-n-2
+    shared-slice-read-n-2
+    cast-n-2
+    add-n
+    add-v
+    loop2-less
     loop2-again
-    (λ c. search needs))
+    returns)

@@ -35,11 +35,35 @@ loop-holds : tie.Need-loop-holds Inv-loop μ-loop
 unfolding takeAll tally
 loop-holds c = (zero≤, refl, refl, omega arith)
 
+mul-read : tie.Need-mul-read Inv-loop μ-loop
+mul-read c = search needs
+
+shared-slice-read-read : tie.Need-shared-slice-read-read Inv-loop μ-loop
+shared-slice-read-read c = search needs
+
+read-requires : tie.Need-read-requires Inv-loop μ-loop
+read-requires c κs = search needs
+
+cast-b : tie.Need-cast-b Inv-loop μ-loop
+cast-b c = search needs
+
+mul-counts : tie.Need-mul-counts Inv-loop μ-loop
+mul-counts c = search needs
+
+slice-read-counts : tie.Need-slice-read-counts Inv-loop μ-loop
+slice-read-counts c = search needs
+
 sub-counts : tie.Need-sub-counts Inv-loop μ-loop
 sub-counts c =
     let k = c .before .before .before .before .before .before .before in
     let l = c .before .before .before .before .loop in
     take-some (column k) (now (k .before .args .counts)) (counted k) (l .counts) (l .j) _ _ (l .inv .2) (c .before .read .ensures) (c .before .before .before .loop-test .taken) (k .before .pre .1 .each _)
+
+mul-counts-2 : tie.Need-mul-counts-2 Inv-loop μ-loop
+mul-counts-2 c = search needs
+
+slice-write-counts : tie.Need-slice-write-counts Inv-loop μ-loop
+slice-write-counts c = search needs
 
 one-less-requires : tie.Need-one-less-requires Inv-loop μ-loop
 one-less-requires c κs =
@@ -54,6 +78,12 @@ one-less-requires c κs =
       tally-longer (λ i. ltb (column k i) (a .value)) (l .j + 1) (length (now (a .rows))) (omega arith),
     )
 
+add-j : tie.Need-add-j Inv-loop μ-loop
+add-j c = search needs
+
+loop-less : tie.Need-loop-less Inv-loop μ-loop
+loop-less c = search needs
+
 loop-again : tie.Need-loop-again Inv-loop μ-loop
 loop-again c =
     let k = c .before .before .before .before .before .before .before .before in
@@ -65,6 +95,9 @@ loop-again c =
       take-more (column k) (now (a .counts)) (l .counts) (l .j) _ q (l .inv .2),
       omega (arith, c .one-less .ensures, l .inv .3, belows-more (column k) (now (a .counts)) (l .counts) (l .j) _ q (a .value)),
     )
+
+same-length : tie.Need-same-length Inv-loop μ-loop
+same-length c = search needs
 
 returns : tie.Need-returns Inv-loop μ-loop
 returns c =
@@ -79,18 +112,18 @@ take-column-spec =
     Inv-loop
     μ-loop
     loop-holds
-    (λ c. search needs)
-    (λ c. search needs)
-    (λ c κs. search needs)
-    (λ c. search needs)
-    (λ c. search needs)
-    (λ c. search needs)
+    mul-read
+    shared-slice-read-read
+    read-requires
+    cast-b
+    mul-counts
+    slice-read-counts
     sub-counts
-    (λ c. search needs)
-    (λ c. search needs)
+    mul-counts-2
+    slice-write-counts
     one-less-requires
-    (λ c. search needs)
-    (λ c. search needs)
+    add-j
+    loop-less
     loop-again
-    (λ c. search needs)
+    same-length
     returns)

@@ -24,6 +24,39 @@ abbrev μ-loop : tie.MeasureT-loop
 loop-holds : tie.Need-loop-holds Inv-loop μ-loop
 loop-holds c = (c .before .pre .0 .from, refl, refl, omega arith, write-start _ _ _, write-start _ _ _)
 
+nine-inside-requires : tie.Need-nine-inside-requires Inv-loop μ-loop
+nine-inside-requires c κs = search needs
+
+slice-aggregate-gx-of : tie.Need-slice-aggregate-gx-of Inv-loop μ-loop
+slice-aggregate-gx-of c = search needs
+
+gx-of-requires : tie.Need-gx-of-requires Inv-loop μ-loop
+gx-of-requires c κs = search needs
+
+mul-gy : tie.Need-mul-gy Inv-loop μ-loop
+mul-gy c = search needs
+
+slice-set-from-gy : tie.Need-slice-set-from-gy Inv-loop μ-loop
+slice-set-from-gy c = search needs
+
+slice-aggregate-gy-of : tie.Need-slice-aggregate-gy-of Inv-loop μ-loop
+slice-aggregate-gy-of c = search needs
+
+gy-of-requires : tie.Need-gy-of-requires Inv-loop μ-loop
+gy-of-requires c κs = search needs
+
+mul-t14 : tie.Need-mul-t14 Inv-loop μ-loop
+mul-t14 c = search needs
+
+slice-set-from-gy-2 : tie.Need-slice-set-from-gy-2 Inv-loop μ-loop
+slice-set-from-gy-2 c = search needs
+
+add-i : tie.Need-add-i Inv-loop μ-loop
+add-i c = search needs
+
+loop-less : tie.Need-loop-less Inv-loop μ-loop
+loop-less c = search needs
+
 loop-again : tie.Need-loop-again Inv-loop μ-loop
 loop-again c =
     let m = c .before .before .before .before .before .before in
@@ -43,6 +76,12 @@ loop-again c =
           (stored (c .gy-of .result) (c .gy-of .ok) ∙ c .gy-of .ensures ∙ ap (component gyTable) nine),
     )
 
+same-length : tie.Need-same-length Inv-loop μ-loop
+same-length c = search needs
+
+same-length-2 : tie.Need-same-length-2 Inv-loop μ-loop
+same-length-2 c = search needs
+
 returns : tie.Need-returns Inv-loop μ-loop
 returns c =
     let l = c .before .loop in
@@ -56,18 +95,18 @@ inner-gradients-spec =
     Inv-loop
     μ-loop
     loop-holds
-    (λ c κs. search needs)
-    (λ c. search needs)
-    (λ c κs. search needs)
-    (λ c. search needs)
-    (λ c. search needs)
-    (λ c. search needs)
-    (λ c κs. search needs)
-    (λ c. search needs)
-    (λ c. search needs)
-    (λ c. search needs)
-    (λ c. search needs)
+    nine-inside-requires
+    slice-aggregate-gx-of
+    gx-of-requires
+    mul-gy
+    slice-set-from-gy
+    slice-aggregate-gy-of
+    gy-of-requires
+    mul-t14
+    slice-set-from-gy-2
+    add-i
+    loop-less
     loop-again
-    (λ c. search needs)
-    (λ c. search needs)
+    same-length
+    same-length-2
     returns)

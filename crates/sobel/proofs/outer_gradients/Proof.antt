@@ -40,6 +40,36 @@ div-nine-about c = let p = about (c .before .before) .column in omega arith
 nine-about-requires : tie.Need-nine-about-requires Inv-loop μ-loop
 nine-about-requires c κs = about (c .before .before)
 
+slice-aggregate-gx-of : tie.Need-slice-aggregate-gx-of Inv-loop μ-loop
+slice-aggregate-gx-of c = search needs
+
+gx-of-requires : tie.Need-gx-of-requires Inv-loop μ-loop
+gx-of-requires c κs = search needs
+
+mul-gy : tie.Need-mul-gy Inv-loop μ-loop
+mul-gy c = search needs
+
+slice-set-from-gy : tie.Need-slice-set-from-gy Inv-loop μ-loop
+slice-set-from-gy c = search needs
+
+slice-aggregate-gy-of : tie.Need-slice-aggregate-gy-of Inv-loop μ-loop
+slice-aggregate-gy-of c = search needs
+
+gy-of-requires : tie.Need-gy-of-requires Inv-loop μ-loop
+gy-of-requires c κs = search needs
+
+mul-t13 : tie.Need-mul-t13 Inv-loop μ-loop
+mul-t13 c = search needs
+
+slice-set-from-gy-2 : tie.Need-slice-set-from-gy-2 Inv-loop μ-loop
+slice-set-from-gy-2 c = search needs
+
+add-i : tie.Need-add-i Inv-loop μ-loop
+add-i c = search needs
+
+loop-less : tie.Need-loop-less Inv-loop μ-loop
+loop-less c = search needs
+
 loop-again : tie.Need-loop-again Inv-loop μ-loop
 loop-again c =
     let m = c .before .before .before .before .before .before .before .before in
@@ -59,6 +89,12 @@ loop-again c =
           (stored (c .gy-of .result) (c .gy-of .ok) ∙ c .gy-of .ensures ∙ ap (component gyTable) nine ∙ about-is gyTable (a .size) (a .border) (now (a .pixels)) _ _),
     )
 
+same-length : tie.Need-same-length Inv-loop μ-loop
+same-length c = search needs
+
+same-length-2 : tie.Need-same-length-2 Inv-loop μ-loop
+same-length-2 c = search needs
+
 returns : tie.Need-returns Inv-loop μ-loop
 returns c =
     let l = c .before .loop in
@@ -75,17 +111,17 @@ outer-gradients-spec =
     rem-nine-about
     div-nine-about
     nine-about-requires
-    (λ c. search needs)
-    (λ c κs. search needs)
-    (λ c. search needs)
-    (λ c. search needs)
-    (λ c. search needs)
-    (λ c κs. search needs)
-    (λ c. search needs)
-    (λ c. search needs)
-    (λ c. search needs)
-    (λ c. search needs)
+    slice-aggregate-gx-of
+    gx-of-requires
+    mul-gy
+    slice-set-from-gy
+    slice-aggregate-gy-of
+    gy-of-requires
+    mul-t13
+    slice-set-from-gy-2
+    add-i
+    loop-less
     loop-again
-    (λ c. search needs)
-    (λ c. search needs)
+    same-length
+    same-length-2
     returns)

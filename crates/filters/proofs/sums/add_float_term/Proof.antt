@@ -23,6 +23,15 @@ row-in c =
     let b = s .pre .0 .block in
     row-ends (s .args .size) (c .before .before .place-about .result) (b .width-fits) (b .height-fits) (c .if1 .taken)
 
+flipped-weight-requires : tie.Need-flipped-weight-requires
+flipped-weight-requires c κs = search needs
+
+add-place-about : tie.Need-add-place-about
+add-place-about c = search needs
+
+place-about-requires : tie.Need-place-about-requires
+place-about-requires c κs = search needs
+
 mul-a : tie.Need-mul-a
 mul-a c = let b = c .before .before .before .before .before .before .before .before .pre .0 .block in omega (arith, row-in (c .before))
 
@@ -35,8 +44,20 @@ add-e c = let b = c .before .before .before .before .before .before .before .bef
 mul-add-floats : tie.Need-mul-add-floats
 mul-add-floats c = let b = c .before .before .before .before .before .before .before .before .before .pre .0 .block in omega (arith, row-in (c .before .before))
 
+sub-add-floats : tie.Need-sub-add-floats
+sub-add-floats c = search needs
+
+part-add-floats-start : tie.Need-part-add-floats-start
+part-add-floats-start c = search needs
+
 part-add-floats-end : tie.Need-part-add-floats-end
 part-add-floats-end c = let b = c .before .before .before .before .before .before .before .before .before .pre .0 .block in omega (arith, row-in (c .before .before), c .before .before .before .before .before .before .before .before .before .pre .0 .long)
+
+add-floats-requires : tie.Need-add-floats-requires
+add-floats-requires c κs = search needs
+
+same-length : tie.Need-same-length
+same-length c = search needs
 
 returns : tie.Need-returns
 returns c =
@@ -50,6 +71,12 @@ returns c =
     (p .place-about .result) (s .pre .0 .block .columns)
     (inside (a .border) (under (a .y) (length (now (a .taps))) (a .k)) (a .size .height) _ (p .place-about .ensures) (t .if1 .taken))
     (r .add-floats .ensures)
+
+add-zeros-requires : tie.Need-add-zeros-requires
+add-zeros-requires c κs = search needs
+
+same-length-2 : tie.Need-same-length-2
+same-length-2 c = search needs
 
 returns-2 : tie.Need-returns-2
 returns-2 c =
@@ -67,19 +94,19 @@ pub add-float-term-spec : {M : Type 1} → statement M
 add-float-term-spec =
     tie.close
     (tie.spec
-    (λ c κs. search needs)
-    (λ c. search needs)
-    (λ c κs. search needs)
+    flipped-weight-requires
+    add-place-about
+    place-about-requires
     mul-a
     add-a
     add-e
     mul-add-floats
-    (λ c. search needs)
-    (λ c. search needs)
+    sub-add-floats
+    part-add-floats-start
     part-add-floats-end
-    (λ c κs. search needs)
-    (λ c. search needs)
+    add-floats-requires
+    same-length
     returns
-    (λ c κs. search needs)
-    (λ c. search needs)
+    add-zeros-requires
+    same-length-2
     returns-2)
