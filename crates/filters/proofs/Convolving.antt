@@ -2,18 +2,18 @@
 use mathlib.Core.Path.{_≡_, refl, sym, ap, _∙_, fun-ext}
 use mathlib.Core.List.{List}
 use Prim.Native.Nat.{ℕ, _+_, _*_, _/_, _%_, _<_, _≤_}
-use native.Mathlib.Nat.{mul-one, zero-mul}
+use native.Mathlib.Nat.{mul-one}
 use native.Mathlib.Omega.{arith}
 use lib.ListN.{length}
 use lib.IntN.{ℤ}
 use lib.Ieee.{Float, nan}
 use Rattle.rules.specs.Limits.{maxKernel, maxTaps}
-use Rattle.rules.specs.Picture.{tabulate, area, byPixel, filled, cleared}
+use Rattle.rules.specs.Picture.{area, byPixel, filled, cleared}
 use Rattle.rules.specs.Border.{resolved, entryAt, sampleAt}
 use Rattle.rules.specs.Sums.{plusZero, toByte}
 use Rattle.rules.specs.Filters.{ofBytes, ofFloats, sampler, kernelSum, rowKernel, columnKernel, horizontalAt, verticalAt, separableAt}
 use Rattle.rules.specs.Refusals.{first, kernelRows, separableRows}
-use Rattle.rules.specs.Calls.{painted, separated}
+use Rattle.rules.specs.Calls.{painted}
 use Rattle.rules.specs.declared.Size.{Size}
 use Rattle.rules.specs.declared.Kernel.{Kernel}
 use Rattle.rules.specs.declared.SeparableKernel.{SeparableKernel}
@@ -22,26 +22,20 @@ use Rattle.rules.specs.declared.Coord.{Coord}
 use Rattle.rules.specs.declared.Coord.the-variants.{At, Nothing, Refused}
 use Rattle.rules.proofs.Fill.{recount, refill, filled-at}
 use Rattle.rules.proofs.Rows.{off, side-off, input-off, count-off, match-off, room-off}
-use Rattle.rules.proofs.Grid.{row-below, row-in}
+use Rattle.rules.proofs.Grid.{column-in, row-below, row-in}
 use Rattle.rules.proofs.Border.{Within, resolved-within}
 use Rattle.filters.specs.Blocks.{BytePass, FloatPass}
 
--- a width of 0 has no pixel, so nothing changes (01.Take.7)
-pub no-width : {A : Type 0} (d : Size) (f : ℕ → A) (o : List A) → d .width ≡ 0 → o ≡ filled (area d) f o
-unfolding tabulate
-no-width d f o e = rw (e, zero-mul)
-
 -- ---- an accepted kernel
 
-pub kernel-pass : (d : Size) (k : Kernel) (pixels : List ℕ) (weights : List Float) (out : List ℕ) → first (kernelRows d k pixels weights out) ≡ 0 → (d .width ≡ 0 → ⊥) → BytePass d k pixels weights out
-kernel-pass d k pixels weights out e n =
+pub kernel-pass : (d : Size) (k : Kernel) (pixels : List ℕ) (weights : List Float) (out : List ℕ) → first (kernelRows d k pixels weights out) ≡ 0 → BytePass d k pixels weights out
+kernel-pass d k pixels weights out e =
     let p = off (kernelRows d k pixels weights out) tt e in
     let q = p .1 .1 in
     let s = side-off d (p .0) in
     let w = count-off maxKernel (k .width) (q .0) in
     let h = count-off maxKernel (k .height) (q .1 .0) in
     record {
-      wide = omega arith;
       width-fits = s .width;
       height-fits = s .height;
       long = input-off d pixels (p .1 .0);
@@ -75,39 +69,36 @@ module _ (d : Size) (k : SeparableKernel) (pixels : List ℕ) (horizontal vertic
         small = side-off d (p .0) .small;
       }
 
-  module _ (n : d .width ≡ 0 → ⊥) where
-    pub row-pass : BytePass d (rowKernel (length horizontal)) pixels horizontal work
-    row-pass =
-        let p = off (separableRows d k pixels horizontal vertical work out) tt e in
-        let s = side-off d (p .0) in
-        let c = count-off maxTaps (k .horizontal) (p .1 .1 .0) in
-        let t = taps .across in
-        record {
-          wide = omega arith;
-          width-fits = s .width;
-          height-fits = s .height;
-          long = input-off d pixels (p .1 .0);
-          kernel-wide = omega (arith, c .some);
-          kernel-high = omega arith;
-          kernel-width = omega (arith, c .few);
-          kernel-height = omega arith;
-          count = sym (mul-one (length horizontal));
-          room = taps .work-room;
-        }
+  pub row-pass : BytePass d (rowKernel (length horizontal)) pixels horizontal work
+  row-pass =
+      let p = off (separableRows d k pixels horizontal vertical work out) tt e in
+      let s = side-off d (p .0) in
+      let c = count-off maxTaps (k .horizontal) (p .1 .1 .0) in
+      let t = taps .across in
+      record {
+        width-fits = s .width;
+        height-fits = s .height;
+        long = input-off d pixels (p .1 .0);
+        kernel-wide = omega (arith, c .some);
+        kernel-high = omega arith;
+        kernel-width = omega (arith, c .few);
+        kernel-height = omega arith;
+        count = sym (mul-one (length horizontal));
+        room = taps .work-room;
+      }
 
-    pub column-pass : (entries : List Float) → length entries ≡ length work → FloatPass d entries vertical out
-    column-pass entries l =
-        let p = off (separableRows d k pixels horizontal vertical work out) tt e in
-        let s = side-off d (p .0) in
-        let c = count-off maxTaps (k .vertical) (p .1 .1 .1 .0) in
-        record {
-          wide = omega arith;
-          width-fits = s .width;
-          height-fits = s .height;
-          long = omega (arith, taps .work-room);
-          few = omega (arith, c .few, taps .down);
-          room = taps .out-room;
-        }
+  pub column-pass : (entries : List Float) → length entries ≡ length work → FloatPass d entries vertical out
+  column-pass entries l =
+      let p = off (separableRows d k pixels horizontal vertical work out) tt e in
+      let s = side-off d (p .0) in
+      let c = count-off maxTaps (k .vertical) (p .1 .1 .1 .0) in
+      record {
+        width-fits = s .width;
+        height-fits = s .height;
+        long = omega (arith, taps .work-room);
+        few = omega (arith, c .few, taps .down);
+        room = taps .out-room;
+      }
 
 -- ---- samples look at the picture's own entries only
 
@@ -134,11 +125,12 @@ module _ (d : Size) (k : SeparableKernel) (mode : BorderMode) (pixels : List ℕ
     between : (i : ℕ) → i < area d → ofFloats mid i ≡ byPixel d across i
     between i l = filled-at (area d) (byPixel d across) work mid nan i m l
 
-    pub both-passes : 0 < d .width → length horizontal ≡ k .horizontal → length vertical ≡ k .vertical
+    pub both-passes : length horizontal ≡ k .horizontal → length vertical ≡ k .vertical
         → out' ≡ filled (area d) (byPixel d (λ x y. toByte (verticalAt d (length vertical) mode vertical (ofFloats mid) x y))) out → out' ≡ painted d (separableAt d k mode pixels horizontal vertical) out
     unfolding separableAt
-    both-passes w p q o =
+    both-passes p q o =
         recount (area d) _ _ out out' o (λ i l.
+        let w : 0 < d .width = omega (arith, column-in d i l) in
         let h : 0 < d .height = omega (arith, row-below d i l) in
         ap (λ (s : ℤ → ℤ → Float). toByte (kernelSum s (columnKernel (length vertical)) vertical (i % d .width) (i / d .width))) (sampler-same d (ofFloats mid) (byPixel d across) between mode w h)
         ∙ ap (λ (n : ℕ). toByte (verticalAt d n mode vertical (byPixel d across) (i % d .width) (i / d .width))) q

@@ -1,22 +1,20 @@
 -- 2^23 added to a fraction from 0 to 255: the sum rounds to a whole number at most a half away, which its bits hold. Assumes nothing.
 use mathlib.Core.Path.{_≡_, refl, sym, ap, _∙_, subst}
-use mathlib.Core.Bool.{Bool, true, false, not, cond}
-use mathlib.Core.Logic.{inl, inr}
+use mathlib.Core.Bool.{Bool, false, not}
 use Prim.Native.Nat.{ℕ, zero, suc, _+_, _-_, _*_, _/_, _%_, _^_, _≤_, _<_, compare, Ordering, Ordering·lt, Ordering·eq, Ordering·gt}
-use native.Mathlib.Nat.{lt-of-lt-of-le, lt-of-not-le, not-le-of-lt, mul-one, one-mul, zero-mul, mul-comm, mul-assoc, mul-right-comm, add-mul, suc-mul, mod-lt, mul-le-mul-right, mul-lt-mul-of-pos-right, le-of-mul-le-mul-right, le-antisymm, le-of-eq, mul-pos, div-add-mod', le-div-iff-mul-le, div-lt-iff-lt-mul}
+use native.Mathlib.Nat.{lt-of-lt-of-le, lt-of-not-le, not-le-of-lt, mul-one, one-mul, zero-mul, mul-assoc, mul-right-comm, add-mul, suc-mul, mod-lt, mul-le-mul-right, mul-lt-mul-of-pos-right, le-of-mul-le-mul-right, le-antisymm, le-of-eq, mul-pos, div-add-mod', le-div-iff-mul-le, div-lt-iff-lt-mul}
 use native.Mathlib.Omega.{arith}
 use lib.Dec.{T, isLe, isEq, eqb, leb→le, nleb→lt, eqb→eq, eqb-refl}
 use lib.Arith.{lt-of-le-ne}
 use lib.Pow.{pow-mono, pow-pos}
-use lib.IntN.{ℤ, pos, negsuc}
-use lib.Ieee.{Float, nan, inf, fin, binary32, up, down, size, nearest, odd, round, sum, add, ofBits, toBits, isNan, nanBits, fits}
+use lib.Ieee.{Float, nan, inf, fin, binary32, up, down, size, nearest, odd, round, ofBits, toBits, isNan}
 use lib.Ieee.Bits.{ofBits-fits, toBits-ofBits, nanBits-is}
 use lib.Ieee.Digits.{size-lt, size-le}
 use lib.Ieee.Exact.{HasValue, odd-sign}
-use lib.Ieee.Fits.{down-pos, round-fits}
+use lib.Ieee.Fits.{round-fits}
 use lib.Ieee.Nearest.{closest, closest-same}
-use lib.Ieee.Order.{drop, kept}
-use lib.Ieee.Scale.{round-same, round-val, grid, overflow}
+use lib.Ieee.Order.{drop}
+use lib.Ieee.Scale.{round-val, grid, overflow}
 use lib.Ieee.Back.{whole-unique}
 use Rattle.rules.proofs.Patterns.{pattern, pattern-is, pattern-ok}
 

@@ -62,7 +62,7 @@ pub byte-block : {A : Type 0} (d : Size) (k : Kernel) (pixels : List ℕ) (weigh
 byte-block d k pixels weights out at n sums p r f h =
     record {
       block = block d at n sums r (p .width-fits) (p .height-fits) f h;
-      wide = p .wide;
+      wide = omega (arith, r .column);
       long = p .long;
       kernel-wide = p .kernel-wide;
       kernel-high = p .kernel-high;

@@ -1,7 +1,7 @@
 -- What the steps of `quantize` say: the tests that hold a float to 0..255, a nearest whole number, and the comparison with n and a half. Assumes nothing.
 use mathlib.Core.Path.{_≡_, refl, sym, ap, _∙_}
 use mathlib.Core.Bool.{Bool, true, false, not, cond}
-use Prim.Native.Nat.{ℕ, zero, suc, _+_, _-_, _*_, _^_, _<_, _≤_}
+use Prim.Native.Nat.{ℕ, zero, suc, _+_, _-_, _*_, _<_, _≤_}
 use native.Mathlib.Nat.{mul-one, one-mul, zero-mul, mul-assoc, add-mul, lt-of-not-le, mul-le-mul-right, le-div-iff-mul-le}
 use native.Mathlib.Omega.{arith}
 use lib.Dec.{T, eqb, eqb→eq}
@@ -10,7 +10,7 @@ use lib.Ieee.{Float, nan, inf, fin, binary32, up, down, lt, sum, round, add, ofI
 use lib.Ieee.Fits.{down-pos}
 use lib.Ieee.Scale.{round-same}
 use borrow.Author.Tests.{ltb-true, ltb-false}
-use Rattle.rules.specs.Sums.{plusZero, wholeF32, toByte, nearestWhole, Nearest}
+use Rattle.rules.specs.Sums.{plusZero, wholeF32, toByte, nearestWhole}
 use Rattle.rules.proofs.Bools.{clash}
 use Rattle.rules.proofs.Bytes.{nearest-is, nearest-only}
 use Rattle.rules.proofs.Computed.{at}

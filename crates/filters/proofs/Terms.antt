@@ -1,11 +1,11 @@
 -- The terms of the ordered sums as the code forms them, over bytes and over f32: a flipped weight times a row's samples. Assumes nothing.
 use mathlib.Core.Path.{_≡_, refl, sym, ap, _∙_}
 use mathlib.Core.List.{List}
-use Prim.Native.Nat.{ℕ, zero, suc, _+_, _-_, _*_, _/_, _%_, _<_, _≤_}
-use native.Mathlib.Nat.{add-mul, one-mul, add-assoc, add-comm, div-add-mod', mod-lt, div-lt-iff-lt-mul, mul-comm, mod-one, div-one, add-zero, mul-le-mul}
+use Prim.Native.Nat.{ℕ, _+_, _-_, _*_, _/_, _%_, _<_, _≤_}
+use native.Mathlib.Nat.{add-mul, one-mul, add-assoc, div-add-mod', mod-lt, div-lt-iff-lt-mul, mul-comm, mod-one, div-one, add-zero, mul-le-mul}
 use native.Mathlib.Omega.{arith}
 use lib.ListN.{length, getD, take, drop}
-use lib.IntN.{ℤ, pos, _-ℤ_}
+use lib.IntN.{ℤ, pos}
 use lib.Ieee.{Float, nan, binary32, add}
 use Rattle.rules.specs.Limits.{maxSide}
 use Rattle.rules.specs.Picture.{area, filled}

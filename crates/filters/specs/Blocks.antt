@@ -64,7 +64,6 @@ pub record FloatBlock (d : Size) (entries taps : List Float) (x y n : ℕ) (sums
 
 -- a pass over a whole byte picture with a kernel, and room for what it writes
 pub record BytePass {A : Type 0} (d : Size) (k : Kernel) (pixels : List ℕ) (weights : List Float) (out : List A) : Type 0 where
-  pub wide : 0 < d .width
   pub width-fits : d .width ≤ maxSide
   pub height-fits : d .height ≤ maxSide
   pub long : length pixels ≡ area d
@@ -77,7 +76,6 @@ pub record BytePass {A : Type 0} (d : Size) (k : Kernel) (pixels : List ℕ) (we
 
 -- over a whole f32 picture with a column of taps
 pub record FloatPass (d : Size) (entries taps : List Float) (out : List ℕ) : Type 0 where
-  pub wide : 0 < d .width
   pub width-fits : d .width ≤ maxSide
   pub height-fits : d .height ≤ maxSide
   pub long : area d ≤ length entries

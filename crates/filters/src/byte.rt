@@ -1,7 +1,7 @@
 // The conversion of an f32 to a byte, without a cast and without a branch on the data: 2^23 is added, and the bits of the sum are read.
 ghost use mathlib.Core.Path.{_≡_};
 ghost use mathlib.Core.Bool.{false};
-ghost use Prim.Native.Nat.{ℕ, _+_, _*_, _≤_};
+ghost use Prim.Native.Nat.{_+_, _*_, _≤_};
 ghost use lib.ListN.{length, getD};
 ghost use lib.IntN.{negsuc};
 ghost use lib.Ieee.{fin, nan};

@@ -4,6 +4,5 @@ mod byte;
 pub mod convolution;
 pub mod gaussian;
 mod passes;
-mod refusals;
 pub mod sharpen;
 mod sums;

@@ -1,16 +1,16 @@
 // Ordered f32 sums, a block of neighbouring pixels at once: each weight is added to every sum of the block before the next weight is, so
 // each pixel's own sum keeps its order (01.Border.7) and the loops run over slices in step.
-use crate::convolution::place;
+use border::coord::place;
 use rules::BorderMode;
 use rules::Kernel;
 use rules::Size;
 ghost use mathlib.Core.Path.{_≡_};
-ghost use Prim.Native.Nat.{ℕ, _+_, _-_, _*_, _≤_, _<_, min};
+ghost use Prim.Native.Nat.{_+_, _-_, _*_, _≤_, _<_, min};
 ghost use lib.ListN.{length, getD};
 ghost use lib.IntN.{pos, _-ℤ_};
 ghost use lib.Ieee.{nan};
 ghost use Rattle.rules.specs.Limits.{maxSide, maxTaps};
-ghost use Rattle.rules.specs.Picture.{area, filled, cleared};
+ghost use Rattle.rules.specs.Picture.{filled, cleared};
 ghost use Rattle.rules.specs.Border.{resolved};
 ghost use Rattle.rules.specs.Sums.{plusZero};
 ghost use Rattle.rules.specs.Filters.{ofBytes, ofFloats, sampler, kernelTerm, kernelSum, columnKernel};
@@ -73,7 +73,7 @@ fn place_about(at: usize, half: usize, side: usize, border: BorderMode) -> usize
     requires { ⌜ (0 < side) × (side ≤ maxSide) × (at < 2 * maxSide) × (half ≤ maxTaps) ⌝ }
     ensures { λ r. ⌜ r ≡ placeIn side (resolved border (pos at -ℤ pos half) side) ⌝ }
 {
-    place(at as i64 - half as i64, side, border)
+    place(at as u32, half as u32, side, border)
 }
 
 // The sample of a row at coordinate at - half.

@@ -1,6 +1,4 @@
 -- `held` meets its contract, test by test. Assumes nothing.
-use borrow.Author.Needs.{needs}
-use native.Mathlib.Omega.{arith}
 use Rattle.filters.specs.Byte.{heldOf}
 use Rattle.filters.proofs.byte.held.Statement.{statement}
 use Rattle.filters.proofs.byte.held.Tie as tie

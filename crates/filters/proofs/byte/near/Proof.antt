@@ -1,5 +1,4 @@
 -- `near` meets its contract: the bits of the sum hold a nearest whole number. Assumes nothing.
-use borrow.Author.Needs.{needs}
 use native.Mathlib.Omega.{arith}
 use Rattle.filters.proofs.Rounding.{near-no-nan, near-found, near-least, near-most}
 use Rattle.filters.proofs.byte.near.Statement.{statement}

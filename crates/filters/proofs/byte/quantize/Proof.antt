@@ -1,10 +1,9 @@
 -- `quantize` meets its contract: held, nearest, and one comparison with n and a half. Assumes nothing.
 use borrow.Author.Needs.{needs}
 use native.Mathlib.Omega.{arith}
-use mathlib.Core.Path.{_≡_, sym, ap, _∙_, subst}
-use lib.Ieee.{Float}
+use mathlib.Core.Path.{_≡_, ap, _∙_}
 use Rattle.rules.specs.Sums.{toByte}
-use Rattle.filters.specs.Byte.{heldOf, Small}
+use Rattle.filters.specs.Byte.{Small}
 use Rattle.filters.proofs.Rounding.{small-held, held-same, rounds-down, rounds-up, rounds-under}
 use Rattle.filters.proofs.byte.quantize.Statement.{statement}
 use Rattle.filters.proofs.byte.quantize.Tie as tie
@@ -15,14 +14,8 @@ is-small c = rw (c .held .ensures) (small-held (c .before .args .v))
 is-same : (c : tie.After-held) → toByte (c .held .result) ≡ toByte (c .before .args .v)
 is-same c = ap toByte (c .held .ensures) ∙ held-same (c .before .args .v)
 
-held-requires : tie.Need-held-requires
-held-requires c κs = search needs
-
 near-requires : tie.Need-near-requires
 near-requires c κs = is-small c
-
-half-above-requires : tie.Need-half-above-requires
-half-above-requires c κs = search needs
 
 add-result : tie.Need-add-result
 add-result c = omega (arith, rounds-under (is-small (c .before .before .before)) (c .before .before .near .ensures) (rw (c .before .half-above .ensures) at (c .if1 .left)))
@@ -36,4 +29,4 @@ returns-2 c = rounds-up (is-small (c .before .before .before)) (c .before .befor
 pub quantize-spec : {M : Type 1} → statement M
 quantize-spec =
     tie.close
-    (tie.spec held-requires near-requires half-above-requires add-result returns returns-2)
+    (tie.spec (λ c κs. search needs) near-requires (λ c κs. search needs) add-result returns returns-2)

@@ -23,24 +23,6 @@ loop-holds c =
     let a = c .before .before .args in
     (zero≤, refl, fill-start (λ k. toByte (getD (now (a .sums)) k nan)) (now (a .out)))
 
-mul-quantize : tie.Need-mul-quantize Inv-loop μ-loop
-mul-quantize c = search needs
-
-shared-slice-read-quantize : tie.Need-shared-slice-read-quantize Inv-loop μ-loop
-shared-slice-read-quantize c = search needs
-
-quantize-requires : tie.Need-quantize-requires Inv-loop μ-loop
-quantize-requires c κs = search needs
-
-slice-write-out : tie.Need-slice-write-out Inv-loop μ-loop
-slice-write-out c = search needs
-
-add-i : tie.Need-add-i Inv-loop μ-loop
-add-i c = search needs
-
-loop-less : tie.Need-loop-less Inv-loop μ-loop
-loop-less c = search needs
-
 loop-again : tie.Need-loop-again Inv-loop μ-loop
 loop-again c =
     let a = c .before .before .before .before .before .before .args in
@@ -50,9 +32,6 @@ loop-again c =
       simp length-set (l .inv .1),
       fill-more (l .i) (λ k. toByte (getD (now (a .sums)) k nan)) (now (a .out)) (l .out) _ h (l .inv .2) (c .quantize .ensures),
     )
-
-same-length : tie.Need-same-length Inv-loop μ-loop
-same-length c = search needs
 
 returns : tie.Need-returns Inv-loop μ-loop
 returns c =
@@ -66,12 +45,12 @@ quantize-row-spec =
     Inv-loop
     μ-loop
     loop-holds
-    mul-quantize
-    shared-slice-read-quantize
-    quantize-requires
-    slice-write-out
-    add-i
-    loop-less
+    (λ c. search needs)
+    (λ c. search needs)
+    (λ c κs. search needs)
+    (λ c. search needs)
+    (λ c. search needs)
+    (λ c. search needs)
     loop-again
-    same-length
+    (λ c. search needs)
     returns)

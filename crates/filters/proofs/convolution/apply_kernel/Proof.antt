@@ -1,67 +1,43 @@
--- `apply_kernel` meets its contract: refused, a picture of no pixels, or convolved. Assumes nothing.
+-- `apply_kernel` meets its contract: refused, or convolved. Assumes nothing.
 use borrow.Author.Needs.{needs}
-use native.Mathlib.Omega.{arith}
-use mathlib.Core.Path.{_≡_, sym, _∙_}
+use mathlib.Core.Path.{sym, _∙_}
 use denote.Ref.{now}
 use Rattle.rules.specs.Filters.{convolvedAt}
 use Rattle.rules.specs.Refusals.{first, kernelRows}
 use Rattle.rules.specs.Calls.{painted, applyKernel}
 use Rattle.rules.proofs.Answers.{refused-is, accepted-is}
-use Rattle.filters.proofs.Convolving.{kernel-pass, no-width}
+use Rattle.filters.proofs.Convolving.{kernel-pass}
 use Rattle.filters.proofs.convolution.apply_kernel.Statement.{statement}
 use Rattle.filters.proofs.convolution.apply_kernel.Tie as tie
 
-of-kernel-requires : tie.Need-of-kernel-requires
-of-kernel-requires c κs = search needs
-
-same-length : tie.Need-same-length
-same-length c = search needs
-
 returns : tie.Need-returns
 unfolding applyKernel
-returns c = let a = c .before .before .before .before .before .before .args in refused-is (first (kernelRows (a .size) (a .kernel) (now (a .pixels)) (now (a .weights)) (now (a .out)))) _ (c .before .of-kernel .ensures) (painted (a .size) (convolvedAt (a .size) (a .kernel) (a .border) (now (a .pixels)) (now (a .weights))) (now (a .out))) (now (a .out)) (c .if1 .taken)
+returns c =
+    let a = c .before .before .before .before .before .before .args in
+    refused-is (first (kernelRows (a .size) (a .kernel) (now (a .pixels)) (now (a .weights)) (now (a .out)))) _ (c .before .kernel-refusal .ensures) (painted (a .size) (convolvedAt (a .size) (a .kernel) (a .border) (now (a .pixels)) (now (a .weights))) (now (a .out))) (now (a .out)) (c .if1 .taken)
 
-same-length-2 : tie.Need-same-length-2
-same-length-2 c = search needs
+convolve-requires : tie.Need-convolve-requires
+convolve-requires c κs =
+    let e = c .before .before in
+    let a = e .before .before .before .before .before .before .args in
+    (kernel-pass (a .size) (a .kernel) (now (a .pixels)) (now (a .weights)) (now (a .out)) (sym (e .before .kernel-refusal .ensures) ∙ e .if1 .left), search needs)
 
 returns-2 : tie.Need-returns-2
 unfolding applyKernel
 returns-2 c =
-    let a = c .before .before .before .before .before .before .before .before .args in
-    let e = c .before .before in
-    accepted-is (first (kernelRows (a .size) (a .kernel) (now (a .pixels)) (now (a .weights)) (now (a .out)))) _ (e .before .of-kernel .ensures) (painted (a .size) (convolvedAt (a .size) (a .kernel) (a .border) (now (a .pixels)) (now (a .weights))) (now (a .out))) (now (a .out)) (now (a .out)) (e .if1 .left) (no-width (a .size) _ (now (a .out)) (c .if2 .taken))
-
-slice-aggregate-convolve : tie.Need-slice-aggregate-convolve
-slice-aggregate-convolve c = search needs
-
-convolve-requires : tie.Need-convolve-requires
-convolve-requires c κs =
-    let t = c .before .before in
-    let a = t .before .before .before .before .before .before .before .before .args in
-    let e = t .before .before in
-    (kernel-pass (a .size) (a .kernel) (now (a .pixels)) (now (a .weights)) (now (a .out)) (sym (e .before .of-kernel .ensures) ∙ e .if1 .left) (t .if2 .left), search needs)
-
-same-length-3 : tie.Need-same-length-3
-same-length-3 c = search needs
-
-returns-3 : tie.Need-returns-3
-unfolding applyKernel
-returns-3 c =
     let v = c .before .before .before in
-    let e = v .before .before .before .before .before in
+    let e = v .before .before .before in
     let a = e .before .before .before .before .before .before .args in
-    accepted-is (first (kernelRows (a .size) (a .kernel) (now (a .pixels)) (now (a .weights)) (now (a .out)))) _ (e .before .of-kernel .ensures) (painted (a .size) (convolvedAt (a .size) (a .kernel) (a .border) (now (a .pixels)) (now (a .weights))) (now (a .out))) (now (a .out)) _ (e .if1 .left) (v .convolve .ensures)
+    accepted-is (first (kernelRows (a .size) (a .kernel) (now (a .pixels)) (now (a .weights)) (now (a .out)))) _ (e .before .kernel-refusal .ensures) (painted (a .size) (convolvedAt (a .size) (a .kernel) (a .border) (now (a .pixels)) (now (a .weights))) (now (a .out))) (now (a .out)) _ (e .if1 .left) (v .convolve .ensures)
 
 pub apply-kernel-spec : {M : Type 1} → statement M
 apply-kernel-spec =
     tie.close
     (tie.spec
-    of-kernel-requires
-    same-length
+    (λ c κs. search needs)
+    (λ c. search needs)
     returns
-    same-length-2
-    returns-2
-    slice-aggregate-convolve
+    (λ c. search needs)
     convolve-requires
-    same-length-3
-    returns-3)
+    (λ c. search needs)
+    returns-2)

@@ -6,15 +6,6 @@ use Rattle.rules.proofs.Blurs.{blur-is}
 use Rattle.filters.proofs.gaussian.gaussian_blur.Statement.{statement}
 use Rattle.filters.proofs.gaussian.gaussian_blur.Tie as tie
 
-apply-separable-kernel-requires : tie.Need-apply-separable-kernel-requires
-apply-separable-kernel-requires c κs = search needs
-
-same-length : tie.Need-same-length
-same-length c = search needs
-
-same-length-2 : tie.Need-same-length-2
-same-length-2 c = search needs
-
 returns : tie.Need-returns
 returns c =
     let s = c .before .before .before .before in
@@ -23,4 +14,4 @@ returns c =
 
 pub gaussian-blur-spec : {M : Type 1} → statement M
 gaussian-blur-spec =
-    tie.close (tie.spec apply-separable-kernel-requires same-length same-length-2 returns)
+    tie.close (tie.spec (λ c κs. search needs) (λ c. search needs) (λ c. search needs) returns)

@@ -49,16 +49,13 @@ loop-holds : tie.Need-loop-holds Inv-loop μ-loop
 loop-holds c = let a = c .before .before .before .before .before .args in (filling-start (area (a .size)) (byPixel (a .size) (convolvedAt (a .size) (a .kernel) (a .border) (now (a .pixels)) (now (a .weights)))) (now (a .out)), refl)
 
 rem-x : tie.Need-rem-x Inv-loop μ-loop
-rem-x c = c .before .before .before .before .before .before .before .pre .0 .wide
+rem-x c = omega (arith, run c .column)
 
 sub-least : tie.Need-sub-least Inv-loop μ-loop
 sub-least c = omega (arith, run c .column)
 
-least-requires : tie.Need-least-requires Inv-loop μ-loop
-least-requires c κs = search needs
-
 div-byte-sums : tie.Need-div-byte-sums Inv-loop μ-loop
-div-byte-sums c = c .before .before .before .before .before .before .before .before .pre .0 .wide
+div-byte-sums c = omega (arith, run (c .before) .column)
 
 byte-sums-requires : tie.Need-byte-sums-requires Inv-loop μ-loop
 byte-sums-requires c κs =
@@ -69,12 +66,6 @@ byte-sums-requires c κs =
 
 add-e : tie.Need-add-e Inv-loop μ-loop
 add-e c = omega (arith, ends (c .before .before .before .before), run (c .before .before .before .before .before) .small)
-
-sub-quantize-row : tie.Need-sub-quantize-row Inv-loop μ-loop
-sub-quantize-row c = search needs
-
-part-quantize-row-start : tie.Need-part-quantize-row-start Inv-loop μ-loop
-part-quantize-row-start c = search needs
 
 part-quantize-row-end : tie.Need-part-quantize-row-end Inv-loop μ-loop
 part-quantize-row-end c = omega (arith, ends (c .before .before .before .before .before), c .before .before .before .before .before .before .before .before .before .before .before .before .before .pre .0 .room, c .before .before .before .before .before .before .before .loop .inv .0 .same)
@@ -100,12 +91,6 @@ loop-again c =
     let l = t .before .before .loop in
     (byte-run (a .size) (l .at) (t .least .result) (t .before .loop-test .taken) (fits t) (kernelSum (sampler (ofBytes (now (a .pixels))) (a .size) (a .border)) (a .kernel) (now (a .weights))) (l .sums) _ (now (a .out)) (l .out) _ (s .pre .0 .room) (l .inv .0) (f .byte-sums .ensures) (q .quantize-row .ensures), search needs)
 
-same-length : tie.Need-same-length Inv-loop μ-loop
-same-length c = search needs
-
-same-length-2 : tie.Need-same-length-2 Inv-loop μ-loop
-same-length-2 c = search needs
-
 returns : tie.Need-returns Inv-loop μ-loop
 returns c =
     let l = c .before .loop in
@@ -122,16 +107,16 @@ convolve-spec =
     loop-holds
     rem-x
     sub-least
-    least-requires
+    (λ c κs. search needs)
     div-byte-sums
     byte-sums-requires
     add-e
-    sub-quantize-row
-    part-quantize-row-start
+    (λ c. search needs)
+    (λ c. search needs)
     part-quantize-row-end
     quantize-row-requires
     loop-less
     loop-again
-    same-length
-    same-length-2
+    (λ c. search needs)
+    (λ c. search needs)
     returns)

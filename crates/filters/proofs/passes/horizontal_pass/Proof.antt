@@ -38,7 +38,7 @@ loop-holds : tie.Need-loop-holds Inv-loop μ-loop
 loop-holds c = let a = c .before .before .before .before .args in filling-start (area (a .size)) (byPixel (a .size) (horizontalAt (a .size) (length (now (a .taps))) (a .border) (now (a .taps)) (ofBytes (now (a .pixels))))) (now (a .work))
 
 rem-x : tie.Need-rem-x Inv-loop μ-loop
-rem-x c = c .before .before .before .before .before .before .pre .wide
+rem-x c = omega (arith, run c .column)
 
 sub-n : tie.Need-sub-n Inv-loop μ-loop
 sub-n c = omega (arith, run c .column)
@@ -47,16 +47,10 @@ add-e : tie.Need-add-e Inv-loop μ-loop
 add-e c = omega (arith, ends c, run c .small)
 
 div-byte-sums : tie.Need-div-byte-sums Inv-loop μ-loop
-div-byte-sums c = c .before .before .before .before .before .before .pre .wide
+div-byte-sums c = omega (arith, run c .column)
 
 mul-byte-sums : tie.Need-mul-byte-sums Inv-loop μ-loop
 mul-byte-sums c = omega (arith, ends c, run c .small)
-
-sub-byte-sums : tie.Need-sub-byte-sums Inv-loop μ-loop
-sub-byte-sums c = search needs
-
-part-byte-sums-start : tie.Need-part-byte-sums-start Inv-loop μ-loop
-part-byte-sums-start c = search needs
 
 part-byte-sums-end : tie.Need-part-byte-sums-end Inv-loop μ-loop
 part-byte-sums-end c = let r = c .before .before .before .before .before .before .pre .room in omega (arith, ends c, c .before .loop .inv .same)
@@ -80,9 +74,6 @@ loop-again c =
     let a = s .args in
     run-more (a .size) (t .before .loop .at) _ (t .loop-test .taken) (fits t) (horizontalAt (a .size) (length (now (a .taps))) (a .border) (now (a .taps)) (ofBytes (now (a .pixels)))) (now (a .work)) (t .before .loop .work) _ (s .pre .room) (t .before .loop .inv) (r .byte-sums .ensures)
 
-same-length : tie.Need-same-length Inv-loop μ-loop
-same-length c = search needs
-
 returns : tie.Need-returns Inv-loop μ-loop
 returns c =
     let l = c .before .loop in
@@ -102,11 +93,11 @@ horizontal-pass-spec =
     add-e
     div-byte-sums
     mul-byte-sums
-    sub-byte-sums
-    part-byte-sums-start
+    (λ c. search needs)
+    (λ c. search needs)
     part-byte-sums-end
     byte-sums-requires
     loop-less
     loop-again
-    same-length
+    (λ c. search needs)
     returns)

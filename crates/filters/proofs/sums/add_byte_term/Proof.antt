@@ -4,7 +4,6 @@ use native.Mathlib.Omega.{arith}
 use Prim.Native.Nat.{_+_, _*_, _/_, _%_, _<_, _≤_}
 use mathlib.Core.Path.{_∙_}
 use denote.Ref.{now}
-use lib.ListN.{length}
 use Rattle.rules.specs.Limits.{maxSide}
 use Rattle.rules.specs.Picture.{area}
 use Rattle.rules.specs.Border.{under}
@@ -24,12 +23,6 @@ row-in c =
     let b = s .pre .0 .block in
     row-ends (s .args .size) (c .before .before .place-about .result) (b .width-fits) (b .height-fits) (c .if1 .taken)
 
-flipped-weight-requires : tie.Need-flipped-weight-requires
-flipped-weight-requires c κs = search needs
-
-div-place-about : tie.Need-div-place-about
-div-place-about c = search needs
-
 add-place-about : tie.Need-add-place-about
 add-place-about c = omega (arith, place-in (c .before .before .before .before .before))
 
@@ -42,17 +35,8 @@ mul-a c = omega (arith, row-in (c .before))
 add-e : tie.Need-add-e
 add-e c = omega (arith, row-in (c .before .before))
 
-sub-add-row : tie.Need-sub-add-row
-sub-add-row c = search needs
-
-part-add-row-start : tie.Need-part-add-row-start
-part-add-row-start c = search needs
-
 part-add-row-end : tie.Need-part-add-row-end
 part-add-row-end c = omega (arith, row-in (c .before .before .before), c .before .before .before .before .before .before .before .before .before .before .before .before .pre .0 .long)
-
-rem-add-row : tie.Need-rem-add-row
-rem-add-row c = search needs
 
 add-add-row : tie.Need-add-add-row
 add-add-row c = let p = place-in (c .before .before .before .before .before .before .before .before .before .before .before .before .before .before) in let b = c .before .before .before .before .before .before .before .before .before .before .before .before .before .before .pre .0 .block in omega arith
@@ -65,9 +49,6 @@ add-row-requires c κs =
     let b = s .pre .0 .block in
     (lent-is (now (s .args .pixels)) (s .args .size .width) (t .before .before .place-about .result) (s .pre .0 .wide) (b .width-fits) (omega (arith, row-in t, s .pre .0 .long)), omega arith, omega arith, omega arith)
 
-same-length : tie.Need-same-length
-same-length c = search needs
-
 returns : tie.Need-returns
 returns c =
     let r = c .before .before in
@@ -79,12 +60,6 @@ returns c =
     (p .before .before .before .flipped-weight .ensures ∙ flipped-is (a .kernel) (now (a .weights)) (a .j) (s .pre .0 .kernel-wide) (s .pre .0 .count) (s .pre .1)) (p .place-about .result) (s .pre .0 .wide) (omega (arith, row-in t, s .pre .0 .long))
     (inside (a .border) (under (a .y) (a .kernel .height) (a .j / a .kernel .width)) (a .size .height) _ (p .place-about .ensures) (t .if1 .taken))
     (r .add-row .ensures)
-
-add-zeros-requires : tie.Need-add-zeros-requires
-add-zeros-requires c κs = search needs
-
-same-length-2 : tie.Need-same-length-2
-same-length-2 c = search needs
 
 returns-2 : tie.Need-returns-2
 returns-2 c =
@@ -102,20 +77,20 @@ pub add-byte-term-spec : {M : Type 1} → statement M
 add-byte-term-spec =
     tie.close
     (tie.spec
-    flipped-weight-requires
-    div-place-about
+    (λ c κs. search needs)
+    (λ c. search needs)
     add-place-about
     place-about-requires
     mul-a
     add-e
-    sub-add-row
-    part-add-row-start
+    (λ c. search needs)
+    (λ c. search needs)
     part-add-row-end
-    rem-add-row
+    (λ c. search needs)
     add-add-row
     add-row-requires
-    same-length
+    (λ c. search needs)
     returns
-    add-zeros-requires
-    same-length-2
+    (λ c κs. search needs)
+    (λ c. search needs)
     returns-2)

@@ -20,33 +20,12 @@ abbrev μ-loop : tie.MeasureT-loop
 loop-holds : tie.Need-loop-holds Inv-loop μ-loop
 loop-holds c = let a = c .args in filling-start (a .n) (added (now (a .sums)) (λ k. plusZero) (a .weight)) (now (a .sums))
 
-mul-sums : tie.Need-mul-sums Inv-loop μ-loop
-mul-sums c = search needs
-
-slice-read-sums : tie.Need-slice-read-sums Inv-loop μ-loop
-slice-read-sums c = search needs
-
-mul-sums-2 : tie.Need-mul-sums-2 Inv-loop μ-loop
-mul-sums-2 c = search needs
-
-slice-write-sums : tie.Need-slice-write-sums Inv-loop μ-loop
-slice-write-sums c = search needs
-
-add-i : tie.Need-add-i Inv-loop μ-loop
-add-i c = search needs
-
-loop-less : tie.Need-loop-less Inv-loop μ-loop
-loop-less c = search needs
-
 loop-again : tie.Need-loop-again Inv-loop μ-loop
 loop-again c =
     let t = c .before .before in
     let s = t .before in
     let a = s .args in
     adding-more (now (a .sums)) (t .loop .sums) (λ k. plusZero) (a .weight) (a .n) (t .loop .i) _ (s .pre) (omega arith) (t .loop .inv) refl
-
-same-length : tie.Need-same-length Inv-loop μ-loop
-same-length c = search needs
 
 returns : tie.Need-returns Inv-loop μ-loop
 returns c =
@@ -61,12 +40,12 @@ add-zeros-spec =
     Inv-loop
     μ-loop
     loop-holds
-    mul-sums
-    slice-read-sums
-    mul-sums-2
-    slice-write-sums
-    add-i
-    loop-less
+    (λ c. search needs)
+    (λ c. search needs)
+    (λ c. search needs)
+    (λ c. search needs)
+    (λ c. search needs)
+    (λ c. search needs)
     loop-again
-    same-length
+    (λ c. search needs)
     returns)

@@ -28,21 +28,12 @@ loop-holds c =
 add-byte-term-requires : tie.Need-add-byte-term-requires Inv-loop μ-loop
 add-byte-term-requires c κs = let p = c .before .before .before .before .before .before .before .before .before .before .pre in let b = p .block in let r = c .before .before .loop .inv .room in (omega arith, c .before .loop-test .taken)
 
-add-j : tie.Need-add-j Inv-loop μ-loop
-add-j c = search needs
-
-loop-less : tie.Need-loop-less Inv-loop μ-loop
-loop-less c = search needs
-
 loop-again : tie.Need-loop-again Inv-loop μ-loop
 loop-again c =
     let d = c .before .before in
     let l = d .before .before .before .loop in
     let a = d .before .before .before .before .before .before .before .before .before .before .before .args in
     summing-more (a .n) (length (now (a .weights))) (l .j) (λ i. kernelTerm (sampler (ofBytes (now (a .pixels))) (a .size) (a .border)) (a .kernel) (now (a .weights)) (a .x + i) (a .y)) _ (l .sums) _ (d .before .before .loop-test .taken) (l .inv) (d .add-byte-term .ensures)
-
-same-length : tie.Need-same-length Inv-loop μ-loop
-same-length c = search needs
 
 returns : tie.Need-returns Inv-loop μ-loop
 returns c =
@@ -61,8 +52,8 @@ byte-sums-spec =
     clear-requires
     loop-holds
     add-byte-term-requires
-    add-j
-    loop-less
+    (λ c. search needs)
+    (λ c. search needs)
     loop-again
-    same-length
+    (λ c. search needs)
     returns)

@@ -5,15 +5,6 @@ use Rattle.filters.proofs.Reading.{row-cell, row-nowhere}
 use Rattle.filters.proofs.sums.edge.Statement.{statement}
 use Rattle.filters.proofs.sums.edge.Tie as tie
 
-place-about-requires : tie.Need-place-about-requires
-place-about-requires c κs = search needs
-
-shared-slice-read-result : tie.Need-shared-slice-read-result
-shared-slice-read-result c = search needs
-
-int-to-float-result : tie.Need-int-to-float-result
-int-to-float-result c = search needs
-
 returns : tie.Need-returns
 returns c =
     let p = c .before .before .before in
@@ -30,4 +21,4 @@ returns-2 c =
 pub edge-spec : {M : Type 1} → statement M
 edge-spec =
     tie.close
-    (tie.spec place-about-requires shared-slice-read-result int-to-float-result returns returns-2)
+    (tie.spec (λ c κs. search needs) (λ c. search needs) (λ c. search needs) returns returns-2)

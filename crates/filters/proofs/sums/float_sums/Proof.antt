@@ -30,21 +30,12 @@ loop-holds c =
 add-float-term-requires : tie.Need-add-float-term-requires Inv-loop μ-loop
 add-float-term-requires c κs = let p = c .before .before .before .before .before .before .before .before .before .before .pre in let b = p .block in let r = c .before .before .loop .inv .room in (omega arith, c .before .loop-test .taken)
 
-add-k : tie.Need-add-k Inv-loop μ-loop
-add-k c = search needs
-
-loop-less : tie.Need-loop-less Inv-loop μ-loop
-loop-less c = search needs
-
 loop-again : tie.Need-loop-again Inv-loop μ-loop
 loop-again c =
     let d = c .before .before in
     let l = d .before .before .before .loop in
     let a = d .before .before .before .before .before .before .before .before .before .before .before .args in
     summing-more (a .n) (length (now (a .taps))) (l .k) (λ i. kernelTerm (sampler (ofFloats (now (a .entries))) (a .size) (a .border)) (columnKernel (length (now (a .taps)))) (now (a .taps)) (a .x + i) (a .y)) _ (l .sums) _ (d .before .before .loop-test .taken) (l .inv) (d .add-float-term .ensures)
-
-same-length : tie.Need-same-length Inv-loop μ-loop
-same-length c = search needs
 
 returns : tie.Need-returns Inv-loop μ-loop
 returns c =
@@ -63,8 +54,8 @@ float-sums-spec =
     clear-requires
     loop-holds
     add-float-term-requires
-    add-k
-    loop-less
+    (λ c. search needs)
+    (λ c. search needs)
     loop-again
-    same-length
+    (λ c. search needs)
     returns)

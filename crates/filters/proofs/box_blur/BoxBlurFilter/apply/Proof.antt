@@ -6,18 +6,6 @@ use Rattle.rules.proofs.Blurs.{box-is}
 use Rattle.filters.proofs.box_blur.BoxBlurFilter.apply.Statement.{statement}
 use Rattle.filters.proofs.box_blur.BoxBlurFilter.apply.Tie as tie
 
-slice-aggregate-gaussian-blur : tie.Need-slice-aggregate-gaussian-blur
-slice-aggregate-gaussian-blur c = search needs
-
-gaussian-blur-requires : tie.Need-gaussian-blur-requires
-gaussian-blur-requires c κs = search needs
-
-same-length : tie.Need-same-length
-same-length c = search needs
-
-same-length-2 : tie.Need-same-length-2
-same-length-2 c = search needs
-
 returns : tie.Need-returns
 returns c =
     let s = c .before .before .before .before in
@@ -28,8 +16,8 @@ pub apply-spec : {M : Type 1} → statement M
 apply-spec =
     tie.close
     (tie.spec
-    slice-aggregate-gaussian-blur
-    gaussian-blur-requires
-    same-length
-    same-length-2
+    (λ c. search needs)
+    (λ c κs. search needs)
+    (λ c. search needs)
+    (λ c. search needs)
     returns)

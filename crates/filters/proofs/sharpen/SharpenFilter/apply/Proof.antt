@@ -7,15 +7,6 @@ use Rattle.rules.proofs.Blurs.{sharpen-is}
 use Rattle.filters.proofs.sharpen.SharpenFilter.apply.Statement.{statement}
 use Rattle.filters.proofs.sharpen.SharpenFilter.apply.Tie as tie
 
-slice-aggregate-apply-kernel : tie.Need-slice-aggregate-apply-kernel
-slice-aggregate-apply-kernel c = search needs
-
-apply-kernel-requires : tie.Need-apply-kernel-requires
-apply-kernel-requires c κs = search needs
-
-same-length : tie.Need-same-length
-same-length c = search needs
-
 returns : tie.Need-returns
 unfolding ofBits ofInt
 returns c =
@@ -25,4 +16,4 @@ returns c =
 
 pub apply-spec : {M : Type 1} → statement M
 apply-spec =
-    tie.close (tie.spec slice-aggregate-apply-kernel apply-kernel-requires same-length returns)
+    tie.close (tie.spec (λ c. search needs) (λ c κs. search needs) (λ c. search needs) returns)

@@ -1,0 +1,3 @@
+-- Laws about this crate's code that several of its proofs cite.
+pub mod Counting
+pub mod Windows

@@ -1,0 +1,2 @@
+-- Laws about this crate's code that several of its proofs cite.
+pub mod Halving

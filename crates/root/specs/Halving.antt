@@ -1,0 +1,22 @@
+-- Sobel's byte by halving: the ends' table, and the bytes that a number may still have.
+use Prim.Native.Nat.{ℕ, _+_, _<_, _≤_}
+use mathlib.Core.Path.{_≡_}
+use mathlib.Core.List.{List}
+use lib.ListN.{length, getD}
+use Rattle.rules.specs.Root.{upperEnd, sobelByte}
+
+-- the 255 upper ends
+pub record Ends (ends : List ℕ) : Type 0 where
+  pub count : length ends ≡ 255
+  pub each : (n : ℕ) → n < 255 → getD ends n 0 ≡ upperEnd n
+
+-- the byte of s is one of the w bytes from n on
+pub record Among (s n w : ℕ) : Type 0 where
+  pub bytes : n + w ≤ 256
+  pub from : n ≤ sobelByte s
+  pub below : sobelByte s < n + w
+
+-- or of the 2 * b from n on, which are to be halved
+pub record Halving (s n b : ℕ) : Type 0 where
+  pub some : 0 < b
+  pub among : Among s n (b + b)

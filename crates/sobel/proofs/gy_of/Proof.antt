@@ -1,0 +1,11 @@
+-- `gy_of` meets its contract: its table is the definition's. Assumes nothing.
+use borrow.Author.Needs.{needs}
+use Rattle.sobel.proofs.Components.{gy-weights}
+use Rattle.sobel.proofs.gy_of.Statement.{statement}
+use Rattle.sobel.proofs.gy_of.Tie as tie
+
+weigh-requires : tie.Need-weigh-requires
+weigh-requires c κs = (gy-weights, search needs)
+
+pub gy-of-spec : {M : Type 1} → statement M
+gy-of-spec = tie.close (tie.spec (λ c. search needs) weigh-requires (λ c. search needs))

@@ -1,0 +1,2 @@
+-- What this crate's private functions require of their arguments, and what they hold on the way.
+pub mod Nine
