@@ -22,8 +22,9 @@ use Rattle.rules.proofs.Border.{Within, resolved-within}
 use Rattle.rules.proofs.Sampling.{placeIn}
 use Rattle.rules.proofs.Signed.{diff-back}
 use Rattle.rules.proofs.Rows.{input-fits}
-use Rattle.border.specs.Reading.{orSide, placed, pictureRows, readAt, readIn}
-use Rattle.border.specs.Lent.{Picture}
+use Rattle.border.specs.Reading.{orSide, placed, readAt, readIn}
+use Rattle.refusals.specs.Rows.{pictureRows}
+use Rattle.refusals.specs.Rows.{Picture}
 
 -- the place of a case v of what `resolve_coord` gave, whose signed argument goes by its bits
 pub place-case : (mode : BorderMode) (a b side : ℕ) (r v : Coord) → a < 2 ^ 62 → b < 2 ^ 62

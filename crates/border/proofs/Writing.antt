@@ -12,7 +12,8 @@ use Rattle.rules.specs.Picture.{tabulate, filled, area}
 use Rattle.rules.specs.declared.Size.{Size}
 use Rattle.rules.proofs.Grid.{row-in}
 use Rattle.rules.proofs.Fill.{length-tabulate, tabulate-cong, tabulate-add}
-use Rattle.border.specs.Lent.{Picture, written, writtenRow}
+use Rattle.border.specs.Lent.{written, writtenRow}
+use Rattle.refusals.specs.Rows.{Picture}
 
 module _ {A : Type 0} (a : ℕ) (g : ℕ → A) (o : List A) where
   -- nothing yet

@@ -2,11 +2,12 @@
 use Prim.Native.Nat.{ℕ, _+_, _*_}
 use mathlib.Core.Bool.{cond}
 use mathlib.Core.Option.{Option, some, none}
-use mathlib.Core.List.{List, [], _∷_}
+use mathlib.Core.List.{List}
 use lib.Dec.{ltb}
 use lib.ListN.{getD}
 use lib.IntN.{ℤ}
-use Rattle.rules.specs.Refusals.{Rule, first, sideRow, inputRow}
+use Rattle.rules.specs.Refusals.{first}
+use Rattle.refusals.specs.Rows.{pictureRows}
 use Rattle.rules.specs.Calls.{accepted, resolveCoord}
 use Rattle.rules.specs.declared.Size.{Size}
 use Rattle.rules.specs.declared.BorderMode.{BorderMode}
@@ -18,10 +19,6 @@ orSide side none = side
 -- the place that the resolver gives; the side itself where it gives none
 unfoldable pub placed : BorderMode → ℤ → ℕ → ℕ
 placed mode c side = orSide side (resolveCoord c side mode .1)
-
--- the rows that every filter's table begins with
-abbrev pub pictureRows : Size → List ℕ → List Rule
-pictureRows d pixels = sideRow d ∷ inputRow d pixels ∷ []
 
 -- the byte at two places: 0 where either is nowhere
 abbrev pub readAt : List ℕ → Size → ℕ → ℕ → ℕ

@@ -1,5 +1,5 @@
 // A byte of a lent picture, by the places of its column and its row.
-use crate::refusals::picture_refusal;
+use refusals::filter::of_picture;
 use rules::ACCEPTED;
 use rules::Size;
 ghost use mathlib.Core.Path.{_≡_};
@@ -9,7 +9,7 @@ ghost use Rattle.border.specs.Reading.{readIn};
 pub fn read(pixels: &[u8], size: Size, x: usize, y: usize) -> u8
     ensures { λ r. ⌜ r ≡ readIn (now (pixels .entry)) size x y ⌝ }
 {
-    if picture_refusal(pixels, size) != ACCEPTED {
+    if of_picture(pixels, size) != ACCEPTED {
         return 0;
     }
     if size.width <= x {

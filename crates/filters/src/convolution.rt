@@ -5,8 +5,8 @@ use crate::passes::horizontal_pass;
 use crate::passes::vertical_pass;
 use crate::sums::clear;
 pub use border::coord::resolve_coord;
-use border::refusals::kernel_refusal;
-use border::refusals::separable_refusal;
+use refusals::filter::of_kernel;
+use refusals::filter::of_separable;
 use rules::ACCEPTED;
 use rules::BorderMode;
 use rules::Kernel;
@@ -26,7 +26,7 @@ pub fn apply_kernel(
 ) -> u8
     ensures { λ r. ⌜ (r, now (out .exit)) ≡ applyKernel size kernel border (now (pixels .entry)) (now (weights .entry)) (now (out .entry)) ⌝ }
 {
-    let refusal = kernel_refusal(pixels, size, kernel, weights, out);
+    let refusal = of_kernel(pixels, size, kernel, weights, out);
     if refusal != ACCEPTED {
         return refusal;
     }
@@ -48,7 +48,7 @@ pub fn apply_separable_kernel(
 ) -> u8
     ensures { λ r. ⌜ (r, (now (work .exit), now (out .exit))) ≡ applySeparableKernel size kernel border (now (pixels .entry)) (now (horizontal .entry)) (now (vertical .entry)) (now (work .entry)) (now (out .entry)) ⌝ }
 {
-    let refusal = separable_refusal(pixels, size, kernel, horizontal, vertical, work, out);
+    let refusal = of_separable(pixels, size, kernel, horizontal, vertical, work, out);
     if refusal != ACCEPTED {
         return refusal;
     }

@@ -21,7 +21,7 @@ use Rattle.rules.proofs.Tallies.{tally-all, tally-eq}
 use Rattle.rules.proofs.Sorting.{fewer, selected}
 use Rattle.rules.proofs.Gradients.{sample-byte}
 use Rattle.median.specs.Counts.{medianOf, rowPlace, columnPlace, columnAt, columnOf, inColumns, sumOf, equals, belows, countedBelow, putAll, takeAll, Counts, Counted, Middle, Selected, Holds, About}
-use Rattle.border.specs.Lent.{Picture}
+use Rattle.refusals.specs.Rows.{Picture}
 use Rattle.border.proofs.Reading.{read-byte, read-is}
 use Rattle.median.proofs.Counting.{sum-cong, sum-more, sum-first, sum-equals, put-at, put-length, put-below, take-at, take-length, take-below, by-columns, occurrences-tabulate, below-is, one-up}
 

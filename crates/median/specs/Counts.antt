@@ -12,7 +12,7 @@ use Rattle.rules.specs.Median.{medianAt}
 use Rattle.rules.specs.declared.Size.{Size}
 use Rattle.rules.specs.declared.BorderMode.{BorderMode}
 use Rattle.border.specs.Reading.{placed, readIn}
-use Rattle.border.specs.Lent.{Picture}
+use Rattle.refusals.specs.Rows.{Picture}
 
 -- the median's picture, by index
 abbrev pub medianOf : Size → ℕ → BorderMode → List ℕ → ℕ → ℕ

@@ -1,7 +1,7 @@
 // The median of a square window, by counts of the 256 byte values that move along a row: one column out, one in.
 use border::coord::place;
 use border::picture::read;
-use border::refusals::picture_refusal;
+use refusals::filter::of_picture;
 use rules::ACCEPTED;
 use rules::BorderMode;
 use rules::MAX_WINDOW;
@@ -17,7 +17,8 @@ ghost use Rattle.rules.specs.Limits.{maxSide, maxWindow};
 ghost use Rattle.rules.specs.Picture.{area, bit, filled};
 ghost use Rattle.rules.specs.Median.{defaultWindow};
 ghost use Rattle.rules.specs.Calls.{median};
-ghost use Rattle.border.specs.Lent.{Picture, writtenRow};
+ghost use Rattle.border.specs.Lent.{writtenRow};
+ghost use Rattle.refusals.specs.Rows.{Picture};
 ghost use Rattle.median.specs.Counts.{medianOf, rowPlace, columnPlace, columnAt, belows, countedBelow, putAll, takeAll, Counts, Counted, Middle, Selected, Holds, Rows, About};
 
 // ---- Where the window's rows and columns are read.
@@ -296,7 +297,7 @@ impl MedianFilter {
     pub fn apply(self, pixels: &[u8], size: Size, out: &mut [u8]) -> u8
         ensures { λ r. ⌜ (r, now (out .exit)) ≡ median size (self .size) (self .border) (now (pixels .entry)) (now (out .entry)) ⌝ }
     {
-        let refusal = picture_refusal(pixels, size);
+        let refusal = of_picture(pixels, size);
         if refusal != ACCEPTED {
             return refusal;
         }

@@ -15,7 +15,8 @@ use Rattle.rules.specs.declared.Size.{Size}
 use Rattle.rules.specs.declared.BorderMode.{BorderMode}
 use Rattle.rules.proofs.Grid.{row-in, column-in, row-below, column-of, row-of}
 use Rattle.rules.proofs.Border.{diff, sample-inside}
-use Rattle.border.specs.Lent.{Picture, written}
+use Rattle.border.specs.Lent.{written}
+use Rattle.refusals.specs.Rows.{Picture}
 use Rattle.border.proofs.Writing.{Row, rewrite-as, write-on}
 use Rattle.sobel.specs.Nine.{Pixel, component, nineAbout, nineInside, insideOf, Inner, nineByte, byteInside}
 

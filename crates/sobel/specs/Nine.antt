@@ -11,7 +11,7 @@ use Rattle.rules.specs.Root.{sobelByte}
 use Rattle.rules.specs.Calls.{sobelAt}
 use Rattle.rules.specs.declared.Size.{Size}
 use Rattle.rules.specs.declared.BorderMode.{BorderMode}
-use Rattle.border.specs.Lent.{Picture}
+use Rattle.refusals.specs.Rows.{Picture}
 
 -- a pixel of a lent picture
 pub record Pixel (d : Size) (pixels : List ℕ) (x y : ℕ) : Type 0 where

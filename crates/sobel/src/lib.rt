@@ -1,7 +1,7 @@
 // Sobel's gradient and Sobel's own bytes. Each public call refuses by number or runs by document 01's rules.
 use border::coord::place;
 use border::picture::read;
-use border::refusals::picture_refusal;
+use refusals::filter::of_picture;
 use root::root_byte;
 pub use root::sobel_byte;
 use rules::ACCEPTED;
@@ -14,7 +14,8 @@ ghost use lib.ListN.{length};
 ghost use Rattle.rules.specs.Picture.{area, filled};
 ghost use Rattle.rules.specs.Gradient.{gxTable, gyTable, energy};
 ghost use Rattle.rules.specs.Calls.{sobelGradients, sobel};
-ghost use Rattle.border.specs.Lent.{Picture, written, writtenRow};
+ghost use Rattle.border.specs.Lent.{written, writtenRow};
+ghost use Rattle.refusals.specs.Rows.{Picture};
 ghost use Rattle.sobel.specs.Nine.{Weights, Run, Pixel, component, aboutAt, nineAbout, nineInside, Inside, Inner, insideOf, gxOf, gyOf, byteOf, nineByte, byteInside};
 
 // The two tables of signed weights, applied without flipping (01.Gradient.1).
@@ -217,7 +218,7 @@ pub fn sobel_gradients(
         ≡ sobelGradients size border (now (pixels .entry)) (now (gx .entry)) (now (gy .entry))
         ⌝ }
 {
-    let refusal = picture_refusal(pixels, size);
+    let refusal = of_picture(pixels, size);
     if refusal != ACCEPTED {
         return refusal;
     }
@@ -350,7 +351,7 @@ impl SobelFilter {
     pub fn apply(self, pixels: &[u8], size: Size, out: &mut [u8]) -> u8
         ensures { λ r. ⌜ (r, now (out .exit)) ≡ sobel size (self .border) (now (pixels .entry)) (now (out .entry)) ⌝ }
     {
-        let refusal = picture_refusal(pixels, size);
+        let refusal = of_picture(pixels, size);
         if refusal != ACCEPTED {
             return refusal;
         }

@@ -4,7 +4,7 @@ use mathlib.Core.List.{[], _∷_}
 use denote.Ref.{now}
 use Rattle.rules.specs.Refusals.{roomRow}
 use Rattle.rules.specs.Calls.{sobelGradients}
-use Rattle.border.proofs.Refusing.{Passed, early-is, passed, no-room, has-room}
+use Rattle.refusals.proofs.Refusing.{Passed, early-is, passed, no-room, has-room}
 use Rattle.sobel.proofs.sobel_gradients.Statement.{statement}
 use Rattle.sobel.proofs.sobel_gradients.Tie as tie
 
@@ -12,11 +12,11 @@ returns : tie.Need-returns
 unfolding sobelGradients
 returns c =
     let a = c .before .before .before .args in
-    early-is (a .size) (now (a .pixels)) _ (c .before .picture-refusal .ensures) (roomRow (a .size) (now (a .gx)) ∷ roomRow (a .size) (now (a .gy)) ∷ []) _ _ (c .if1 .taken)
+    early-is (a .size) (now (a .pixels)) _ (c .before .of-picture .ensures) (roomRow (a .size) (now (a .gx)) ∷ roomRow (a .size) (now (a .gy)) ∷ []) _ _ (c .if1 .taken)
 
 -- the picture is not refused
 accepted : (c : tie.Else1) → let a = c .before .before .before .args in Passed (a .size) (now (a .pixels))
-accepted c = let a = c .before .before .before .args in passed (a .size) (now (a .pixels)) _ (c .before .picture-refusal .ensures) (c .if1 .left)
+accepted c = let a = c .before .before .before .args in passed (a .size) (now (a .pixels)) _ (c .before .of-picture .ensures) (c .if1 .left)
 
 returns-2 : tie.Need-returns-2
 unfolding sobelGradients

@@ -10,15 +10,15 @@ use Rattle.rules.specs.Limits.{maxSide}
 use Rattle.rules.specs.Picture.{area}
 use Rattle.rules.proofs.Grid.{pixel-in}
 use Rattle.border.specs.Reading.{readIn, readAt}
-use Rattle.border.specs.Lent.{Picture}
+use Rattle.refusals.specs.Rows.{Picture}
 use Rattle.border.proofs.Reading.{read-in}
-use Rattle.border.proofs.Refusing.{passed}
+use Rattle.refusals.proofs.Refusing.{passed}
 use Rattle.border.proofs.picture.read.Statement.{statement}
 use Rattle.border.proofs.picture.read.Tie as tie
 
 returns : tie.Need-returns
 unfolding readIn
-returns c = rw (← c .before .picture-refusal .ensures, ne-eqb _ _ (c .if1 .taken))
+returns c = rw (← c .before .of-picture .ensures, ne-eqb _ _ (c .if1 .taken))
 
 -- where the picture is not refused
 module _ (c : tie.Else1) where
@@ -26,7 +26,7 @@ module _ (c : tie.Else1) where
   S = c .before .before .before
 
   picture : Picture (S .args .size) (now (S .args .pixels))
-  picture = passed (S .args .size) (now (S .args .pixels)) _ (c .before .picture-refusal .ensures) (c .if1 .left) .picture
+  picture = passed (S .args .size) (now (S .args .pixels)) _ (c .before .of-picture .ensures) (c .if1 .left) .picture
 
   at-pixel : readIn (now (S .args .pixels)) (S .args .size) (S .args .x) (S .args .y) ≡ readAt (now (S .args .pixels)) (S .args .size) (S .args .x) (S .args .y)
   at-pixel = read-in (S .args .size) (now (S .args .pixels)) picture (S .args .x) (S .args .y)

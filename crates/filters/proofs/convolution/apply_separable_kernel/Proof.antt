@@ -16,7 +16,7 @@ module _ (e : tie.Else1) where
   S = e .before .before .before .before .before .before .before .before .before
 
   fine : let a = S .args in first (separableRows (a .size) (a .kernel) (now (a .pixels)) (now (a .horizontal)) (now (a .vertical)) (now (a .work)) (now (a .out))) ≡ 0
-  fine = sym (e .before .separable-refusal .ensures) ∙ e .if1 .left
+  fine = sym (e .before .of-separable .ensures) ∙ e .if1 .left
 
   granted : let a = S .args in Taps (a .size) (a .kernel) (now (a .pixels)) (now (a .horizontal)) (now (a .vertical)) (now (a .work)) (now (a .out)) fine
   granted = let a = S .args in taps (a .size) (a .kernel) (now (a .pixels)) (now (a .horizontal)) (now (a .vertical)) (now (a .work)) (now (a .out)) fine
@@ -25,7 +25,7 @@ returns : tie.Need-returns
 unfolding applySeparableKernel
 returns c =
     let a = c .before .before .before .before .before .before .before .before .before .args in
-    refused-is (first (separableRows (a .size) (a .kernel) (now (a .pixels)) (now (a .horizontal)) (now (a .vertical)) (now (a .work)) (now (a .out)))) _ (c .before .separable-refusal .ensures) (separated (a .size) (a .kernel) (a .border) (now (a .pixels)) (now (a .horizontal)) (now (a .vertical)) (now (a .work)) (now (a .out))) (now (a .work), now (a .out)) (c .if1 .taken)
+    refused-is (first (separableRows (a .size) (a .kernel) (now (a .pixels)) (now (a .horizontal)) (now (a .vertical)) (now (a .work)) (now (a .out)))) _ (c .before .of-separable .ensures) (separated (a .size) (a .kernel) (a .border) (now (a .pixels)) (now (a .horizontal)) (now (a .vertical)) (now (a .work)) (now (a .out))) (now (a .work), now (a .out)) (c .if1 .taken)
 
 horizontal-pass-requires : tie.Need-horizontal-pass-requires
 horizontal-pass-requires c κs = let e = c .before in let a = S e .args in row-pass (a .size) (a .kernel) (now (a .pixels)) (now (a .horizontal)) (now (a .vertical)) (now (a .work)) (now (a .out)) (fine e)
@@ -48,7 +48,7 @@ returns-2 c =
     let e = m .before .before in
     let a = S e .args in
     let h = granted e in
-    accepted-is (first (separableRows (a .size) (a .kernel) (now (a .pixels)) (now (a .horizontal)) (now (a .vertical)) (now (a .work)) (now (a .out)))) _ (e .before .separable-refusal .ensures) (separated (a .size) (a .kernel) (a .border) (now (a .pixels)) (now (a .horizontal)) (now (a .vertical)) (now (a .work)) (now (a .out))) (now (a .work), now (a .out)) _ (e .if1 .left)
+    accepted-is (first (separableRows (a .size) (a .kernel) (now (a .pixels)) (now (a .horizontal)) (now (a .vertical)) (now (a .work)) (now (a .out)))) _ (e .before .of-separable .ensures) (separated (a .size) (a .kernel) (a .border) (now (a .pixels)) (now (a .horizontal)) (now (a .vertical)) (now (a .work)) (now (a .out))) (now (a .work), now (a .out)) _ (e .if1 .left)
     (ap₂ (λ x y. (x, y))
     (work-cleared (a .size) (a .kernel) (a .border) (now (a .pixels)) (now (a .horizontal)) (now (a .vertical)) (now (a .work)) _ (now (a .out)) (now (a .out)) (m .horizontal-pass .ensures) _ (w .clear .ensures))
     (both-passes (a .size) (a .kernel) (a .border) (now (a .pixels)) (now (a .horizontal)) (now (a .vertical)) (now (a .work)) _ (now (a .out)) _ (m .horizontal-pass .ensures) (h .across) (h .down) (v .vertical-pass .ensures)))

@@ -8,7 +8,7 @@ use Rattle.rules.specs.Limits.{maxWindow}
 use Rattle.rules.specs.Refusals.{countRow, roomRow}
 use Rattle.rules.specs.Calls.{median}
 use Rattle.rules.proofs.Rows.{count-off}
-use Rattle.border.proofs.Refusing.{Passed, early-is, passed, no-room, has-room}
+use Rattle.refusals.proofs.Refusing.{Passed, early-is, passed, no-room, has-room}
 use Rattle.median.proofs.MedianFilter.apply.Statement.{statement}
 use Rattle.median.proofs.MedianFilter.apply.Tie as tie
 
@@ -16,11 +16,11 @@ returns : tie.Need-returns
 unfolding median
 returns c =
     let a = c .before .before .before .before .args in
-    early-is (a .size) (now (a .pixels)) _ (c .before .picture-refusal .ensures) (countRow maxWindow (a .self .size) ∷ roomRow (a .size) (now (a .out)) ∷ []) _ _ (c .if1 .taken)
+    early-is (a .size) (now (a .pixels)) _ (c .before .of-picture .ensures) (countRow maxWindow (a .self .size) ∷ roomRow (a .size) (now (a .out)) ∷ []) _ _ (c .if1 .taken)
 
 -- the picture is not refused
 accepted : (c : tie.Else1) → let a = c .before .before .before .before .args in Passed (a .size) (now (a .pixels))
-accepted c = let a = c .before .before .before .before .args in passed (a .size) (now (a .pixels)) _ (c .before .picture-refusal .ensures) (c .if1 .left)
+accepted c = let a = c .before .before .before .before .args in passed (a .size) (now (a .pixels)) _ (c .before .of-picture .ensures) (c .if1 .left)
 
 returns-2 : tie.Need-returns-2
 unfolding median

@@ -1,9 +1,9 @@
--- `picture_refusal` meets its contract, test by test. Assumes nothing.
+-- `of_picture` meets its contract, test by test. Assumes nothing.
 use native.Mathlib.Omega.{arith}
 use native.Mathlib.Nat.{mul-le-mul}
 use borrow.Author.Tests.{lt-ltb, le-ltb, eq-eqb, ne-eqb}
-use Rattle.border.proofs.refusals.picture_refusal.Statement.{statement}
-use Rattle.border.proofs.refusals.picture_refusal.Tie as tie
+use Rattle.refusals.proofs.filter.of_picture.Statement.{statement}
+use Rattle.refusals.proofs.filter.of_picture.Tie as tie
 
 returns : tie.Need-returns
 returns c = simp (lt-ltb _ _ (c .if1 .taken))
@@ -25,5 +25,5 @@ returns-3 c = let m = c .before in simp (le-ltb _ _ (W m .if1 .left), le-ltb _ _
 returns-4 : tie.Need-returns-4
 returns-4 c = let m = c .before in simp (le-ltb _ _ (W m .if1 .left), le-ltb _ _ (m .before .if2 .left), eq-eqb _ _ (c .if3 .left))
 
-pub picture-refusal-spec : {M : Type 1} → statement M
-picture-refusal-spec = tie.close (tie.spec returns returns-2 mul-if3 returns-3 returns-4)
+pub of-picture-spec : {M : Type 1} → statement M
+of-picture-spec = tie.close (tie.spec returns returns-2 mul-if3 returns-3 returns-4)

@@ -1,7 +1,7 @@
 -- `bad_taps` meets its contract, which its four tests are. Assumes nothing.
 use borrow.Author.Needs.{needs}
-use Rattle.border.proofs.refusals.bad_taps.Statement.{statement}
-use Rattle.border.proofs.refusals.bad_taps.Tie as tie
+use Rattle.refusals.proofs.filter.bad_taps.Statement.{statement}
+use Rattle.refusals.proofs.filter.bad_taps.Tie as tie
 
 returns : tie.Need-returns
 returns c = let t = c .before .before in rw (t .before .bad-count .ensures, t .bad-count2 .ensures)

@@ -17,9 +17,9 @@ use Rattle.rules.specs.declared.Kernel.{Kernel}
 use Rattle.rules.specs.declared.SeparableKernel.{SeparableKernel}
 use Rattle.rules.proofs.Answers.{refused-is}
 use Rattle.rules.proofs.Rows.{off, side-off, input-off}
-use Rattle.border.specs.Reading.{pictureRows}
-use Rattle.border.specs.Lent.{Picture}
-use Rattle.border.specs.Counts.{badKernel, badTaps}
+use Rattle.refusals.specs.Rows.{pictureRows}
+use Rattle.refusals.specs.Rows.{Picture}
+use Rattle.refusals.specs.Rows.{badKernel, badTaps}
 
 -- a picture that neither of its rows refuses
 pub record Passed (d : Size) (pixels : List ℕ) : Type 0 where
@@ -27,7 +27,7 @@ pub record Passed (d : Size) (pixels : List ℕ) : Type 0 where
   pub input : inputRow d pixels .applies ≡ false
   pub picture : Picture d pixels
 
--- the number that `picture_refusal` gave
+-- the number that `of_picture` gave
 module _ (d : Size) (pixels : List ℕ) (r : ℕ) (e : r ≡ first (pictureRows d pixels)) where
   -- one of its rows applies, whatever rows follow
   early : (rest : List Rule) → (r ≡ 0 → ⊥) → r ≡ first (sideRow d ∷ inputRow d pixels ∷ rest)

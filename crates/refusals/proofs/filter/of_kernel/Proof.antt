@@ -1,14 +1,14 @@
--- `kernel_refusal` meets its contract: down the table, with the rows of one number together. Assumes nothing.
+-- `of_kernel` meets its contract: down the table, with the rows of one number together. Assumes nothing.
 use borrow.Author.Needs.{needs}
 use mathlib.Core.Path.{_≡_, sym, _∙_}
 use mathlib.Core.Bool.{false}
 use denote.Ref.{now}
 use lib.ListN.{length}
 use Rattle.rules.specs.Refusals.{first, kernelRows, weightRow, roomRow}
-use Rattle.border.specs.Counts.{badKernel}
-use Rattle.border.proofs.Refusing.{Passed, Joined, refused-early, passed, no-room, has-room, kernel-number, count-is, weight-is, room-is, none-is}
-use Rattle.border.proofs.refusals.kernel_refusal.Statement.{statement}
-use Rattle.border.proofs.refusals.kernel_refusal.Tie as tie
+use Rattle.refusals.specs.Rows.{badKernel}
+use Rattle.refusals.proofs.Refusing.{Passed, Joined, refused-early, passed, no-room, has-room, kernel-number, count-is, weight-is, room-is, none-is}
+use Rattle.refusals.proofs.filter.of_kernel.Statement.{statement}
+use Rattle.refusals.proofs.filter.of_kernel.Tie as tie
 
 -- the table of this call
 module _ (s : tie.Start) where
@@ -16,7 +16,7 @@ module _ (s : tie.Start) where
   number = let a = s .args in kernel-number (a .size) (now (a .pixels)) (a .kernel) (now (a .weights)) (now (a .out))
 
 returns : tie.Need-returns
-returns c = refused-early _ (number (c .before .before .before .before .before)) (c .before .picture-refusal .ensures) (c .if1 .taken)
+returns c = refused-early _ (number (c .before .before .before .before .before)) (c .before .of-picture .ensures) (c .if1 .taken)
 
 -- the picture is not refused
 module _ (c : tie.Else1) where
@@ -24,7 +24,7 @@ module _ (c : tie.Else1) where
   S = c .before .before .before .before .before
 
   picture : Passed (S .args .size) (now (S .args .pixels))
-  picture = passed (S .args .size) (now (S .args .pixels)) _ (c .before .picture-refusal .ensures) (c .if1 .left)
+  picture = passed (S .args .size) (now (S .args .pixels)) _ (c .before .of-picture .ensures) (c .if1 .left)
 
 returns-2 : tie.Need-returns-2
 returns-2 c =
@@ -61,8 +61,8 @@ returns-5 c =
     none-is (picture e) (number (S e))
     (fine f) (sym (w .before .bad-weight .ensures) ∙ w .if3 .left) (has-room (a .size) (now (a .pixels)) (picture e) (now (a .out)) (c .if4 .left))
 
-pub kernel-refusal-spec : {M : Type 1} → statement M
-kernel-refusal-spec =
+pub of-kernel-spec : {M : Type 1} → statement M
+of-kernel-spec =
     tie.close
     (tie.spec
     (λ c κs. search needs)

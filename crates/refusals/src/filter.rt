@@ -1,5 +1,4 @@
-// The refusal number of a filter's call: the rows of 01's table whose subject it has, in ascending order. Rows of one number are tested
-// together, since their order cannot be seen.
+// The refusal numbers of the filters' calls. Rows of one number are tested together, since their order cannot be seen.
 use rules::ACCEPTED;
 use rules::Kernel;
 use rules::MAX_KERNEL;
@@ -16,11 +15,10 @@ use rules::table::bad_count;
 use rules::table::bad_weight;
 ghost use mathlib.Core.Path.{_≡_};
 ghost use Rattle.rules.specs.Refusals.{first, kernelRows, separableRows};
-ghost use Rattle.border.specs.Reading.{pictureRows};
-ghost use Rattle.border.specs.Counts.{badKernel, badTaps};
+ghost use Rattle.refusals.specs.Rows.{pictureRows, badKernel, badTaps};
 
 // 1: a side over the limit; 2: a picture that is not width times height long. Every filter's call begins with these.
-pub fn picture_refusal(pixels: &[u8], size: Size) -> u8
+pub fn of_picture(pixels: &[u8], size: Size) -> u8
     ensures { λ r. ⌜ r ≡ first (pictureRows size (now (pixels .entry))) ⌝ }
 {
     if MAX_SIDE < size.width {
@@ -57,10 +55,10 @@ fn bad_taps(kernel: SeparableKernel, across: usize, down: usize) -> bool
             | ((across != kernel.horizontal) | (down != kernel.vertical)))
 }
 
-pub fn kernel_refusal(pixels: &[u8], size: Size, kernel: Kernel, weights: &[f32], out: &[u8]) -> u8
+pub fn of_kernel(pixels: &[u8], size: Size, kernel: Kernel, weights: &[f32], out: &[u8]) -> u8
     ensures { λ r. ⌜ r ≡ first (kernelRows size kernel (now (pixels .entry)) (now (weights .entry)) (now (out .entry))) ⌝ }
 {
-    let refusal = picture_refusal(pixels, size);
+    let refusal = of_picture(pixels, size);
     if refusal != ACCEPTED {
         return refusal;
     }
@@ -76,7 +74,7 @@ pub fn kernel_refusal(pixels: &[u8], size: Size, kernel: Kernel, weights: &[f32]
     ACCEPTED
 }
 
-pub fn separable_refusal(
+pub fn of_separable(
     pixels: &[u8],
     size: Size,
     kernel: SeparableKernel,
@@ -87,7 +85,7 @@ pub fn separable_refusal(
 ) -> u8
     ensures { λ r. ⌜ r ≡ first (separableRows size kernel (now (pixels .entry)) (now (horizontal .entry)) (now (vertical .entry)) (now (work .entry)) (now (out .entry))) ⌝ }
 {
-    let refusal = picture_refusal(pixels, size);
+    let refusal = of_picture(pixels, size);
     if refusal != ACCEPTED {
         return refusal;
     }

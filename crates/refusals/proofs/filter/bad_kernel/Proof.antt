@@ -7,8 +7,8 @@ use mathlib.Core.Bool.{false}
 use Rattle.rules.specs.Limits.{maxKernel}
 use Rattle.rules.specs.Refusals.{countRow}
 use Rattle.rules.proofs.Rows.{count-off}
-use Rattle.border.proofs.refusals.bad_kernel.Statement.{statement}
-use Rattle.border.proofs.refusals.bad_kernel.Tie as tie
+use Rattle.refusals.proofs.filter.bad_kernel.Statement.{statement}
+use Rattle.refusals.proofs.filter.bad_kernel.Tie as tie
 
 returns : tie.Need-returns
 returns c = rw (sym (c .before .bad-count .ensures) ∙ c .if1 .taken)
