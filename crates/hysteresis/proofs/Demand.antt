@@ -27,7 +27,8 @@ use Rattle.rules.proofs.Fill.{filled-at}
 use Rattle.rules.proofs.Rows.{Sides}
 use Rattle.rules.proofs.Tallies.{tally-all, tally-le, tally-less, tally-zero}
 use Rattle.rules.proofs.Paths.{way-in, joined-tells, joined-count}
-use Rattle.hysteresis.proofs.Numbers.{usable-of, Startable, startable}
+use Rattle.starting.proofs.Numbers.{Startable, startable}
+use Rattle.hysteresis.proofs.Numbers.{usable-of}
 use Rattle.hysteresis.proofs.Floats.{lower}
 use Rattle.hysteresis.proofs.Invariant.{room, last-in, last-two, last-joined}
 use Rattle.hysteresis.proofs.Steps.{Inv, take-keeps, take-finishes, start-holds}

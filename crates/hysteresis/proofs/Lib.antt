@@ -3,7 +3,6 @@ pub mod Places
 pub mod Visits
 pub mod Fits
 pub mod Going
-pub mod Classing
 pub mod Numbers
 pub mod Floats
 pub mod Invariant

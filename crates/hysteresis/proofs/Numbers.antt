@@ -1,27 +1,24 @@
 -- What an accepted number says, and what each call answers by its number. Assumes nothing.
 use Prim.Native.Nat.{ℕ, _+_, _*_, _≤_, _<_}
-use mathlib.Core.Path.{_≡_, ap, _∙_}
+use mathlib.Core.Path.{_≡_}
 use mathlib.Core.Bool.{false}
 use mathlib.Core.List.{List}
 use lib.Dec.{leb, ltb}
 use lib.ListN.{length, getD}
-use lib.Ieee.{Float, lt}
 use borrow.Author.Tests.{ltb-false, leb-false, lt-leb, le-ltb, ne-eqb}
 use Rattle.rules.specs.Limits.{maxSide}
-use Rattle.rules.specs.Picture.{area, anyBelow, cleared}
-use Rattle.rules.specs.Walk.{State, state, mark, count, unusable, atLeast, classed, started, sliced, takes, mapped}
-use Rattle.rules.specs.Refusals.{first, badThreshold, startRows, sliceRows, mapRows}
+use Rattle.rules.specs.Picture.{area, anyBelow}
+use Rattle.rules.specs.Walk.{State, state, mark, count, unusable, sliced, takes, mapped}
+use Rattle.rules.specs.Refusals.{first, sliceRows, mapRows}
 use Rattle.rules.specs.Calls as Calls
-use Rattle.rules.specs.Calls.{walkOf, sidesOf, afterStart, afterSlice, sliceTakes}
+use Rattle.rules.specs.Calls.{walkOf, sidesOf, afterSlice, sliceTakes}
 use Rattle.rules.specs.declared.Size.{Size}
-use Rattle.rules.specs.declared.Thresholds.{Thresholds}
 use Rattle.rules.specs.declared.Walk.{Walk}
-use Rattle.rules.specs.declared.Started.{Started}
 use Rattle.rules.specs.declared.Sliced.{Sliced}
 use Rattle.rules.specs.declared.Mapped.{Mapped}
 use Rattle.rules.proofs.Bools.{neither}
 use Rattle.rules.proofs.Tests.{any-none, none-any}
-use Rattle.rules.proofs.Rows.{Sides, off, side-off, input-off, room-off}
+use Rattle.rules.proofs.Rows.{off, side-off, room-off}
 use Rattle.hysteresis.specs.Fit.{Fit}
 
 -- ---- row 9 as facts
@@ -73,44 +70,7 @@ mappable d s out e =
     let p = off (mapRows d s out) tt e in
     record { small = side-off d (p .0) .small; marks-long = room-off d (s .marks) (p .1 .0); out-long = room-off d out (p .1 .1 .1 .0) }
 
-pub record Startable (d : Size) (t : Thresholds) (magnitudes : List Float) (marks stack : List ℕ) : Type 0 where
-  pub sides : Sides d
-  pub long : length magnitudes ≡ area d
-  pub low : badThreshold (t .low) ≡ false
-  pub high : badThreshold (t .high) ≡ false
-  pub ordered : lt (t .high) (t .low) ≡ false
-  pub marks-long : area d ≤ length marks
-  pub stack-long : area d ≤ length stack
-
-pub startable : (d : Size) (t : Thresholds) (magnitudes : List Float) (marks stack : List ℕ) → first (startRows d t magnitudes marks stack) ≡ 0 → Startable d t magnitudes marks stack
-startable d t magnitudes marks stack e =
-    let p = off (startRows d t magnitudes marks stack) tt e in
-    let b = neither (badThreshold (t .low)) _ (p .1 .1 .0) in
-    record {
-      sides = side-off d (p .0);
-      long = input-off d magnitudes (p .1 .0);
-      low = b .0;
-      high = b .1;
-      ordered = p .1 .1 .1 .0;
-      marks-long = room-off d marks (p .1 .1 .1 .1 .0);
-      stack-long = room-off d stack (p .1 .1 .1 .1 .1 .0);
-    }
-
 -- ---- the answers: k is the number that the code worked out
-
-module _ (d : Size) (t : Thresholds) (magnitudes : List Float) (m s : List ℕ) (k : ℕ) (e : k ≡ first (startRows d t magnitudes m s)) where
-  pub start-refused : (k ≡ 0 → ⊥)
-      → _≡_ {A = Started × (List ℕ × List ℕ)} (record { refusal = k; walk = record { width = 0; height = 0; pending = 0 } }, (m, s)) (Calls.start d t magnitudes m s)
-  unfolding Calls.start
-  start-refused n = rw (← e, ne-eqb k 0 n)
-
-  pub start-made : (s′ m″ s″ : List ℕ) (p : ℕ) → k ≡ 0 → s′ ≡ cleared (area d) 0 s
-      → state m″ s″ p ≡ classed (atLeast (t .high) magnitudes) (atLeast (t .low) magnitudes) (area d) (state m s′ 0)
-      → _≡_ {A = Started × (List ℕ × List ℕ)} (record { refusal = 0; walk = walkOf d p }, (m″, s″)) (Calls.start d t magnitudes m s)
-  unfolding Calls.start afterStart started
-  start-made s′ m″ s″ p z f g =
-      let q : state m″ s″ p ≡ afterStart d t magnitudes m s = g ∙ ap (λ (x : List ℕ). classed (atLeast (t .high) magnitudes) (atLeast (t .low) magnitudes) (area d) (state m x 0)) f in
-      rw (← e, z, ← q)
 
 module _ (w : Walk) (b : ℕ) (m s : List ℕ) (k : ℕ) (e : k ≡ first (sliceRows (sidesOf w) b (state m s (w .pending)))) where
   pub slice-refused : (k ≡ 0 → ⊥) → _≡_ {A = Sliced × (List ℕ × List ℕ)} (record { refusal = k; takes = 0; walk = w }, (m, s)) (Calls.slice w b m s)

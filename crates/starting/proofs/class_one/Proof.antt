@@ -2,8 +2,8 @@
 use borrow.Author.Needs.{needs}
 use mathlib.Core.Logic.{⊎-elim}
 use Rattle.rules.specs.Walk.{class}
-use Rattle.hysteresis.proofs.starting.class_one.Statement.{statement}
-use Rattle.hysteresis.proofs.starting.class_one.Tie as tie
+use Rattle.starting.proofs.class_one.Statement.{statement}
+use Rattle.starting.proofs.class_one.Tie as tie
 
 returns : tie.Need-returns
 unfolding class

@@ -2,9 +2,9 @@
 use borrow.Author.Needs.{needs}
 use native.Mathlib.Omega.{arith}
 use mathlib.Core.Path.{sym, _∙_}
-use Rattle.hysteresis.proofs.Numbers.{Startable, startable, start-refused, start-made}
-use Rattle.hysteresis.proofs.start.Statement.{statement}
-use Rattle.hysteresis.proofs.start.Tie as tie
+use Rattle.starting.proofs.Numbers.{Startable, startable, start-refused, start-made}
+use Rattle.starting.proofs.start.Statement.{statement}
+use Rattle.starting.proofs.start.Tie as tie
 
 -- past the test the start is accepted
 ok : (c : tie.Else1) → let a = c .before .before .before .before .before .before .before .args in Startable (a .size) (a .thresholds) (a .magnitudes .now) (a .marks .now) (a .stack .now)

@@ -5,9 +5,9 @@ use Prim.Native.Nat.{_-_, _≤_}
 use mathlib.Core.Path.{_≡_, _∙_}
 use lib.ListN.{length}
 use Rattle.rules.specs.Walk.{state, atLeast, classed}
-use Rattle.hysteresis.proofs.Classing.{class-pending, classed-more}
-use Rattle.hysteresis.proofs.starting.class_all.Statement.{statement}
-use Rattle.hysteresis.proofs.starting.class_all.Tie as tie
+use Rattle.starting.proofs.Classing.{class-pending, classed-more}
+use Rattle.starting.proofs.class_all.Statement.{statement}
+use Rattle.starting.proofs.class_all.Tie as tie
 
 abbrev Inv-loop : tie.InvT-loop
 Inv-loop magnitudes thresholds marks₀ stack₀ n pending₀ i₀ marks stack pending i = (i ≤ n) × (pending ≤ i) × (state marks stack pending ≡ classed (atLeast (thresholds .high) magnitudes) (atLeast (thresholds .low) magnitudes) i (state marks₀ stack₀ pending₀)) × (length marks ≡ length marks₀) × (length stack ≡ length stack₀)

@@ -1,8 +1,13 @@
-// The parts of a start (01.Walk.3 to 01.Walk.6).
+// The start of a walk (01.Walk.3 to 01.Walk.6): each pixel's mark by its magnitude, and the strong ones pending.
+use refusals::walk::of_start;
+use rules::ACCEPTED;
 use rules::MARK_NONE;
 use rules::MARK_PENDING;
 use rules::MARK_WEAK;
+use rules::Size;
+use rules::Started;
 use rules::Thresholds;
+use rules::Walk;
 ghost use mathlib.Core.Path.{_≡_};
 ghost use Prim.Native.Nat.{_*_, _≤_, _<_};
 ghost use lib.ListN.{length};
@@ -10,9 +15,10 @@ ghost use lib.Ieee as Ieee;
 ghost use Rattle.rules.specs.Limits.{maxSide};
 ghost use Rattle.rules.specs.Picture.{cleared};
 ghost use Rattle.rules.specs.Walk.{state, atLeast, class, classed};
+ghost use Rattle.rules.specs.Calls as Calls;
 
 // The first n places are cleared.
-pub(crate) fn clear(stack: &mut [u32], n: usize)
+fn clear(stack: &mut [u32], n: usize)
     requires { ⌜ n ≤ length (now stack) ⌝ }
     ensures { λ _. ⌜ now (stack .exit) ≡ cleared n 0 (now (stack .entry)) ⌝ }
 {
@@ -49,7 +55,7 @@ fn class_one(
 }
 
 // The first n pixels are classed, in row order; the answer is how many are pending.
-pub(crate) fn class_all(
+fn class_all(
     magnitudes: &[f32],
     thresholds: Thresholds,
     marks: &mut [u8],
@@ -66,4 +72,38 @@ pub(crate) fn class_all(
         i += 1;
     }
     pending
+}
+
+// Starts a walk: each pixel's magnitude is classed by the thresholds, and the strong ones are pending.
+pub fn start(
+    magnitudes: &[f32],
+    size: Size,
+    thresholds: Thresholds,
+    marks: &mut [u8],
+    stack: &mut [u32],
+) -> Started
+    ensures { λ r. ⌜ (r, (now (marks .exit), now (stack .exit))) ≡ Calls.start size thresholds (now (magnitudes .entry)) (now (marks .entry)) (now (stack .entry)) ⌝ }
+{
+    let refusal = of_start(magnitudes, size, thresholds, marks, stack);
+    if refusal != ACCEPTED {
+        return Started {
+            refusal,
+            walk: Walk {
+                width: 0,
+                height: 0,
+                pending: 0,
+            },
+        };
+    }
+    let n = size.width * size.height;
+    clear(stack, n);
+    let pending = class_all(magnitudes, thresholds, marks, stack, n);
+    Started {
+        refusal: ACCEPTED,
+        walk: Walk {
+            width: size.width,
+            height: size.height,
+            pending,
+        },
+    }
 }

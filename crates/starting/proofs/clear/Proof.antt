@@ -6,8 +6,8 @@ use mathlib.Core.Path.{_≡_, refl}
 use lib.ListN.{length, length-set}
 use Rattle.rules.specs.Picture.{cleared}
 use Rattle.rules.proofs.Fill.{fill-start, fill-more}
-use Rattle.hysteresis.proofs.starting.clear.Statement.{statement}
-use Rattle.hysteresis.proofs.starting.clear.Tie as tie
+use Rattle.starting.proofs.clear.Statement.{statement}
+use Rattle.starting.proofs.clear.Tie as tie
 
 abbrev Inv-loop : tie.InvT-loop
 Inv-loop stack₀ n i₀ stack i = (i ≤ n) × (length stack ≡ length stack₀) × (stack ≡ cleared i 0 stack₀)
