@@ -13,13 +13,14 @@ use Rattle.rules.specs.Limits.{maxTaps}
 use Rattle.rules.specs.Picture.{area, tabulate, filled, cleared, tally}
 use Rattle.rules.specs.Sums.{plusZero}
 use Rattle.rules.specs.Refusals.{first, Scratch, sideRow, inputRow, countRow, weightRow, thresholdRow, orderRow, roomRow, runRows, startRows}
-use Rattle.rules.specs.Run.{suppressedOf, edgesOf, runEdges, countOf, clearedScratch, canny}
+use Rattle.rules.specs.Run.{suppressedOf, edgesOf, runEdges, countOf, clearedScratch, canny, Roomy}
 use Rattle.rules.specs.declared.Size.{Size}
 use Rattle.rules.specs.declared.Thresholds.{Thresholds}
 use Rattle.rules.specs.declared.Counted.{Counted}
 use Rattle.rules.proofs.Fill.{length-tabulate, length-filled, filled-at, take-filled, drop-filled, tabulate-getD, tabulate-cong, getD-tabulate}
 use Rattle.rules.proofs.Rows.{off, none, side-off, input-off, room-off, input-fits, room-fits}
 use Rattle.rules.proofs.Tallies.{tally-eq}
+use Rattle.scratch.specs.Cleared.{clearedTo}
 use Rattle.canny.specs.Lent.{scratch, roomRows, accepted, Run, Suppressed, Walkable, Walked}
 
 -- ---- eight rows for room are one, of the shortest
@@ -145,23 +146,26 @@ module _ (d : Size) (pixels : List ℕ) (taps : List Float) (t : Thresholds) (s 
       unfolding countOf
       counted = tally-eq _ _ (area d) (λ q l. ap (λ (v : ℕ). eqb v 255) (filled-at (area d) (λ q. getD E q 0) out out' 0 q out-is l))
 
-      clear-past : {A : Type 0} (z : A) (o l r : List A) → drop (area d) l ≡ drop (area d) o → r ≡ cleared (area d) z l → r ≡ cleared (area d) z o
-      clear-past z o l r p q = rw (q, p)
+      -- cleared after the stages is cleared from the start, where there is room
+      clear-past : {A : Type 0} (z : A) (o l r : List A) → drop (area d) l ≡ drop (area d) o → area d ≤ length l → r ≡ clearedTo (area d) z l → r ≡ cleared (area d) z o
+      clear-past z o l r p h q = let e : min (area d) (length l) ≡ area d = omega arith in (rw e at q) ∙ rw p
 
       pub ran : (c : ℕ) (work'' magnitude'' : List Float) (gx'' gy'' : List ℤ) (blurred'' marks'' stack'' : List ℕ)
-          → (magnitude'' ≡ cleared (area d) plusZero magnitude') × (gx'' ≡ cleared (area d) (pos 0) gx') × (gy'' ≡ cleared (area d) (pos 0) gy') × (blurred'' ≡ cleared (area d) 0 blurred')
-          → (work'' ≡ cleared (area d) plusZero work') × (marks'' ≡ cleared (area d) 0 marks') × (stack'' ≡ cleared (area d) 0 stack')
-          → c ≡ tally (λ q. eqb (getD out' q 0) 255) (area d)
+          → Roomy d (scratch work' magnitude' gx' gy' blurred' marks' stack') out'
+          → (magnitude'' ≡ clearedTo (area d) plusZero magnitude') × (gx'' ≡ clearedTo (area d) (pos 0) gx') × (gy'' ≡ clearedTo (area d) (pos 0) gy') × (blurred'' ≡ clearedTo (area d) 0 blurred')
+          → (work'' ≡ clearedTo (area d) plusZero work') × (marks'' ≡ clearedTo (area d) 0 marks') × (stack'' ≡ clearedTo (area d) 0 stack')
+          → c ≡ tally (λ q. eqb (getD out' q 0) 255) (min (area d) (length out'))
           → (c, (out', scratch work'' magnitude'' gx'' gy'' blurred'' marks'' stack'')) ≡ accepted d pixels taps t s out
-      ran c work'' magnitude'' gx'' gy'' blurred'' marks'' stack'' a b k =
+      ran c work'' magnitude'' gx'' gy'' blurred'' marks'' stack'' h a b k =
+          let e : min (area d) (length out') ≡ area d = omega (arith, h .room) in
           rw (
-            k ∙ counted,
+            (rw e at k) ∙ counted,
             out-is,
-            clear-past plusZero (s .work) work' work'' (drop-filled (area d) F (s .work) work' (u .is)) (b .0),
-            clear-past plusZero (s .magnitude) magnitude' magnitude'' (u .magnitude-kept) (a .0),
-            clear-past (pos 0) (s .gx) gx' gx'' (u .gx-kept) (a .1),
-            clear-past (pos 0) (s .gy) gy' gy'' (u .gy-kept) (a .2),
-            clear-past 0 (s .blurred) blurred' blurred'' (u .blurred-kept) (a .3),
-            clear-past 0 (s .marks) marks' marks'' (w .marks-kept) (b .1),
-            clear-past 0 (s .stack) stack' stack'' (w .stack-kept) (b .2),
+            clear-past plusZero (s .work) work' work'' (drop-filled (area d) F (s .work) work' (u .is)) (h .work) (b .0),
+            clear-past plusZero (s .magnitude) magnitude' magnitude'' (u .magnitude-kept) (h .magnitude) (a .0),
+            clear-past (pos 0) (s .gx) gx' gx'' (u .gx-kept) (h .gx) (a .1),
+            clear-past (pos 0) (s .gy) gy' gy'' (u .gy-kept) (h .gy) (a .2),
+            clear-past 0 (s .blurred) blurred' blurred'' (u .blurred-kept) (h .blurred) (a .3),
+            clear-past 0 (s .marks) marks' marks'' (w .marks-kept) (h .marks) (b .1),
+            clear-past 0 (s .stack) stack' stack'' (w .stack-kept) (h .stack) (b .2),
           )

@@ -14,16 +14,11 @@ use rules::table::bad_count;
 use rules::table::bad_threshold;
 use rules::table::bad_weight;
 use rules::table::side_over;
+use scratch::least;
 ghost use mathlib.Core.Path.{_≡_};
 ghost use Prim.Native.Nat.{min};
 ghost use Rattle.rules.specs.Refusals.{first};
 ghost use Rattle.canny.specs.Lent.{roomRows};
-
-fn least(a: usize, b: usize) -> usize
-    ensures { λ r. ⌜ r ≡ min a b ⌝ }
-{
-    if a < b { a } else { b }
-}
 
 // The least of eight.
 pub(crate) fn shortest(

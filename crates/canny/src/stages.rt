@@ -1,22 +1,18 @@
 // The stages between the refusals and the clearing: each public call in turn, over parts of the scratch that are width times height long.
-use crate::clearing::clear_stages;
-use crate::clearing::clear_walk;
 use filters::gaussian::gaussian_blur;
 use hysteresis::map;
 use hysteresis::slice;
 use hysteresis::start;
 use rules::BorderMode;
-use rules::EDGE;
 use rules::Size;
 use rules::Thresholds;
+use scratch::clear_stages;
+use scratch::clear_walk;
+use scratch::count_edges;
 use sobel::sobel_gradients;
 use suppression::gradient_magnitude;
 use suppression::non_maximum_suppression;
 ghost use mathlib.Core.Path.{_≡_};
-ghost use Prim.Native.Nat.{_≤_};
-ghost use lib.Dec.{eqb};
-ghost use lib.ListN.{length, getD};
-ghost use Rattle.rules.specs.Picture.{tally};
 ghost use Rattle.rules.specs.Refusals.{first, runRows};
 ghost use Rattle.canny.specs.Lent.{scratch, accepted, Run, Suppressed, Walkable, Walked};
 
@@ -60,22 +56,6 @@ fn walk(
     let ended = slice(first, n + 1, marks, stack);
     let last = ended.walk;
     map(last, marks, stack, out);
-}
-
-// How many of the map's first n entries are 255.
-fn count_edges(map: &[u8], n: usize) -> usize
-    requires { ⌜ n ≤ length (now map) ⌝ }
-    ensures { λ r. ⌜ r ≡ tally (λ q. eqb (getD (now (map .entry)) q 0) 255) n ⌝ }
-{
-    let mut count = 0;
-    let mut i = 0;
-    while i < n {
-        if map[i] == EDGE {
-            count += 1;
-        }
-        i += 1;
-    }
-    count
 }
 
 // An accepted run: the map is written, the scratch is zero, and the answer counts the map's 255s.

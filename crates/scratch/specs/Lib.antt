@@ -1,0 +1,2 @@
+-- What this crate's functions promise.
+pub mod Cleared
