@@ -1,8 +1,8 @@
 -- `gy_of` meets its contract: its table is the definition's. Assumes nothing.
 use borrow.Author.Needs.{needs}
-use Rattle.sobel.proofs.Components.{gy-weights}
-use Rattle.sobel.proofs.gy_of.Statement.{statement}
-use Rattle.sobel.proofs.gy_of.Tie as tie
+use Rattle.root.proofs.Components.{gy-weights}
+use Rattle.root.proofs.gy_of.Statement.{statement}
+use Rattle.root.proofs.gy_of.Tie as tie
 
 weigh-requires : tie.Need-weigh-requires
 weigh-requires c κs = (gy-weights, search needs)

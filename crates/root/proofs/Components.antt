@@ -16,7 +16,7 @@ use mir.Val.{SFits, toZ, ofZ}
 use mir.ValLaws.{toZ-ofZ, toZ-pos}
 use Rattle.rules.specs.Gradient.{gxTable, gyTable, sumZ}
 use Rattle.rules.proofs.Sizes.{sfits, back, abs-mul, sum-size}
-use Rattle.sobel.specs.Nine.{Weights}
+use Rattle.root.specs.Components.{Weights}
 
 -- what is stored as an i16 is read back
 pub stored : (z : ℤ) → mag z < 2 ^ 15 → toZ w16 (ofZ w16 z) ≡ z

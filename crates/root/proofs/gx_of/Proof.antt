@@ -1,8 +1,8 @@
 -- `gx_of` meets its contract: its table is the definition's. Assumes nothing.
 use borrow.Author.Needs.{needs}
-use Rattle.sobel.proofs.Components.{gx-weights}
-use Rattle.sobel.proofs.gx_of.Statement.{statement}
-use Rattle.sobel.proofs.gx_of.Tie as tie
+use Rattle.root.proofs.Components.{gx-weights}
+use Rattle.root.proofs.gx_of.Statement.{statement}
+use Rattle.root.proofs.gx_of.Tie as tie
 
 weigh-requires : tie.Need-weigh-requires
 weigh-requires c κs = (gx-weights, search needs)
