@@ -1,18 +1,18 @@
 -- `energy_of` meets its contract: the two components are small enough for their squares. Assumes nothing.
 use borrow.Author.Needs.{needs}
 use native.Mathlib.Omega.{arith}
-use mathlib.Core.Path.{ap₂, _∙_}
+use mathlib.Core.Path.{refl, ap₂, _∙_}
 use Prim.Native.Nat.{_≤_}
 use denote.Ref.{now}
 use lib.IntN.{natAbs}
 use Rattle.rules.specs.Gradient.{energy}
-use Rattle.root.proofs.Components.{gx-weights, gy-weights}
+use Rattle.root.proofs.Components.{weights}
 use Rattle.root.proofs.Energies.{gx-within, gy-within, wide-fits, square-fits, both-fits, energy-cast, energy-is}
 use Rattle.root.proofs.energy_of.Statement.{statement}
 use Rattle.root.proofs.energy_of.Tie as tie
 
 weigh-requires : tie.Need-weigh-requires
-weigh-requires c κs = (gx-weights, search needs)
+weigh-requires c κs = (weights _ refl tt, search needs)
 
 small-x : (c : tie.After-weigh) → natAbs (c .weigh .result) ≤ 1020
 small-x c =
@@ -23,7 +23,7 @@ cast-x : tie.Need-cast-x
 cast-x c = wide-fits (c .weigh .result) (small-x c)
 
 weigh-requires-2 : tie.Need-weigh-requires-2
-weigh-requires-2 c κs = (gy-weights, search needs)
+weigh-requires-2 c κs = (weights _ refl tt, search needs)
 
 small-y : (c : tie.After-weigh2) → natAbs (c .weigh2 .result) ≤ 1020
 small-y c =
