@@ -1,11 +1,70 @@
-// Sobel's own byte of any S, the root of S to the nearest whole number: the 256 that it may be, halved eight times.
+// What Sobel makes of the nine bytes about a pixel: two components, S of them, and the byte of any S, its root to the nearest whole number.
 ghost use mathlib.Core.Path.{_≡_};
 ghost use mathlib.Core.Bool.{cond};
 ghost use lib.Dec.{ltb};
+ghost use lib.ListN.{length};
+ghost use Rattle.rules.specs.Gradient.{gxTable, gyTable, energy};
 ghost use Rattle.rules.specs.Root.{sobelByte};
+ghost use Rattle.root.specs.Components.{Weights, component, nineByte};
 ghost use Rattle.root.specs.Halving.{Ends, Among, Halving};
 
-// ---- By the table of upper ends.
+// ---- Of the nine bytes about a pixel, in row order.
+
+// The two tables of signed weights, applied without flipping (01.Gradient.1).
+const GX: [i16; 9] = [-1, 0, 1, -2, 0, 2, -1, 0, 1];
+
+const GY: [i16; 9] = [-1, -2, -1, 0, 0, 0, 1, 2, 1];
+
+// One component. It takes slices: that an entry is a byte is known of a lent slice, and not of a lent array.
+fn weigh(weights: &[i16], nine: &[u8]) -> i16
+    requires { ⌜ Weights (now weights) × (length (now nine) ≡ 9) ⌝ }
+    ensures { λ r. ⌜ r ≡ component (now (weights .entry)) (now (nine .entry)) ⌝ }
+{
+    let mut sum = 0i16;
+    let mut j = 0;
+    while j < 9 {
+        sum = sum + weights[j] * nine[j] as i16;
+        j += 1;
+    }
+    sum
+}
+
+pub fn gx_of(nine: &[u8; 9]) -> i16
+    ensures { λ r. ⌜ r ≡ component gxTable (now (nine .entry)) ⌝ }
+{
+    weigh(&GX, nine)
+}
+
+pub fn gy_of(nine: &[u8; 9]) -> i16
+    ensures { λ r. ⌜ r ≡ component gyTable (now (nine .entry)) ⌝ }
+{
+    weigh(&GY, nine)
+}
+
+// S of the nine bytes about a pixel: at most 2,080,800 (01.Gradient.3).
+fn energy_of(nine: &[u8]) -> u32
+    requires { ⌜ length (now nine) ≡ 9 ⌝ }
+    ensures { λ r. ⌜ r ≡ energy (component gxTable (now (nine .entry))) (component gyTable (now (nine .entry))) ⌝ }
+{
+    let x = weigh(&GX, nine) as i32;
+    let y = weigh(&GY, nine) as i32;
+    (x * x + y * y) as u32
+}
+
+pub fn byte_of(nine: &[u8; 9]) -> u8
+    ensures { λ r. ⌜ r ≡ nineByte (now (nine .entry)) ⌝ }
+{
+    root_byte(energy_of(nine))
+}
+
+// By the table: the pixels at the picture's sides are few.
+pub fn outer_byte(nine: &[u8; 9]) -> u8
+    ensures { λ r. ⌜ r ≡ nineByte (now (nine .entry)) ⌝ }
+{
+    sobel_byte(energy_of(nine))
+}
+
+// ---- The byte of any S, by the table of upper ends: the 256 that it may be, halved eight times.
 
 // The table, to lend.
 fn upper_ends() -> [u32; 255]
@@ -81,7 +140,7 @@ fn capped(s: u32) -> u16
     65535
 }
 
-pub fn root_byte(s: u32) -> u8
+fn root_byte(s: u32) -> u8
     ensures { λ r. ⌜ r ≡ sobelByte s ⌝ }
 {
     let t = capped(s);

@@ -1,4 +1,2 @@
 -- Laws about this crate's code that several of its proofs cite.
-pub mod Components
 pub mod Pixels
-pub mod Energies

@@ -18,7 +18,8 @@ use Rattle.rules.proofs.Border.{diff, sample-inside}
 use Rattle.border.specs.Lent.{written}
 use Rattle.refusals.specs.Rows.{Picture}
 use Rattle.border.proofs.Writing.{Row, rewrite-as, write-on}
-use Rattle.sobel.specs.Nine.{Pixel, component, nineAbout, nineInside, insideOf, Inner, nineByte, byteInside}
+use Rattle.root.specs.Components.{component, nineByte}
+use Rattle.sobel.specs.Nine.{Pixel, nineAbout, nineInside, insideOf, Inner, byteInside}
 
 -- the pixel with index i
 pub pixel-at : (d : Size) (pixels : List ℕ) (i : ℕ) → Picture d pixels → i < area d → Pixel d pixels (i % d .width) (i / d .width)

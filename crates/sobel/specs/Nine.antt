@@ -1,17 +1,17 @@
--- The nine bytes about a pixel, a component of them, and what the loops over pixels require.
+-- The nine bytes about a pixel, and what the loops over pixels require.
 use Prim.Native.Nat.{ℕ, _+_, _-_, _/_, _%_, _<_, _≤_}
 use mathlib.Core.Path.{_≡_}
 use mathlib.Core.List.{List, [], _∷_}
 use lib.ListN.{length, getD}
-use lib.IntN.{ℤ, pos, natAbs, _*ℤ_}
+use lib.IntN.{ℤ}
 use Rattle.rules.specs.Picture.{area, byPixel, tabulate}
 use Rattle.rules.specs.Border.{byteSample, under}
-use Rattle.rules.specs.Gradient.{gxTable, gyTable, sumZ, gradientAt, energy}
-use Rattle.rules.specs.Root.{sobelByte}
+use Rattle.rules.specs.Gradient.{gxTable, gyTable, gradientAt}
 use Rattle.rules.specs.Calls.{sobelAt}
 use Rattle.rules.specs.declared.Size.{Size}
 use Rattle.rules.specs.declared.BorderMode.{BorderMode}
 use Rattle.refusals.specs.Rows.{Picture}
+use Rattle.root.specs.Components.{component, nineByte}
 
 -- a pixel of a lent picture
 pub record Pixel (d : Size) (pixels : List ℕ) (x y : ℕ) : Type 0 where
@@ -24,15 +24,6 @@ pub record Run {ℓ} {A : Type ℓ} (d : Size) (a e : ℕ) (out : List A) : Type
   pub from : a ≤ e
   pub to : e ≤ area d
   pub room : area d ≤ length out
-
--- a table of nine small weights
-pub record Weights (table : List ℤ) : Type 0 where
-  pub count : length table ≡ 9
-  pub small : (j : ℕ) → natAbs (getD table j (pos 0)) ≤ 2
-
--- nine bytes in row order, weighted
-unfoldable pub component : List ℤ → List ℕ → ℤ
-component table nine = sumZ (λ j. getD table j (pos 0) *ℤ pos (getD nine j 0)) 9
 
 -- the nine bytes about (x, y), through the border
 abbrev pub aboutAt : Size → BorderMode → List ℕ → ℕ → ℕ → ℕ → ℕ
@@ -76,9 +67,6 @@ byteOf d mode pixels = byPixel d (sobelAt d mode pixels)
 abbrev pub insideOf : List ℤ → List ℕ → ℕ → ℕ → ℤ
 insideOf table pixels w i = component table (nineInside pixels w i)
 
--- Sobel's byte of nine bytes, and of the nine entries about index i
-abbrev pub nineByte : List ℕ → ℕ
-nineByte nine = sobelByte (energy (component gxTable nine) (component gyTable nine))
-
+-- Sobel's byte of them
 abbrev pub byteInside : List ℕ → ℕ → ℕ → ℕ
 byteInside pixels w i = nineByte (nineInside pixels w i)

@@ -2,7 +2,10 @@
 use border::coord::place;
 use border::picture::read;
 use refusals::filter::of_picture;
-use root::root_byte;
+use root::byte_of;
+use root::gx_of;
+use root::gy_of;
+use root::outer_byte;
 pub use root::sobel_byte;
 use rules::ACCEPTED;
 use rules::BorderMode;
@@ -12,46 +15,13 @@ ghost use mathlib.Core.Path.{_≡_};
 ghost use Prim.Native.Nat.{_+_, _≤_, _<_};
 ghost use lib.ListN.{length};
 ghost use Rattle.rules.specs.Picture.{area, filled};
-ghost use Rattle.rules.specs.Gradient.{gxTable, gyTable, energy};
+ghost use Rattle.rules.specs.Gradient.{gxTable, gyTable};
 ghost use Rattle.rules.specs.Calls.{sobelGradients, sobel};
 ghost use Rattle.border.specs.Lent.{written, writtenRow};
 ghost use Rattle.refusals.specs.Rows.{Picture};
-ghost use Rattle.sobel.specs.Nine.{Weights, Run, Pixel, component, aboutAt, nineAbout, nineInside, Inside, Inner, insideOf, gxOf, gyOf, byteOf, nineByte, byteInside};
+ghost use Rattle.sobel.specs.Nine.{Run, Pixel, aboutAt, nineAbout, nineInside, Inside, Inner, insideOf, gxOf, gyOf, byteOf, byteInside};
 
-// The two tables of signed weights, applied without flipping (01.Gradient.1).
-const GX: [i16; 9] = [-1, 0, 1, -2, 0, 2, -1, 0, 1];
-
-const GY: [i16; 9] = [-1, -2, -1, 0, 0, 0, 1, 2, 1];
-
-// ---- The nine bytes about a pixel, in row order, and what is made of them.
-
-// One component.
-fn weigh(weights: &[i16], nine: &[u8]) -> i16
-    requires { ⌜ Weights (now weights) × (length (now nine) ≡ 9) ⌝ }
-    ensures { λ r. ⌜ r ≡ component (now (weights .entry)) (now (nine .entry)) ⌝ }
-{
-    let mut sum = 0i16;
-    let mut j = 0;
-    while j < 9 {
-        sum = sum + weights[j] * nine[j] as i16;
-        j += 1;
-    }
-    sum
-}
-
-fn gx_of(nine: &[u8]) -> i16
-    requires { ⌜ length (now nine) ≡ 9 ⌝ }
-    ensures { λ r. ⌜ r ≡ component gxTable (now (nine .entry)) ⌝ }
-{
-    weigh(&GX, nine)
-}
-
-fn gy_of(nine: &[u8]) -> i16
-    requires { ⌜ length (now nine) ≡ 9 ⌝ }
-    ensures { λ r. ⌜ r ≡ component gyTable (now (nine .entry)) ⌝ }
-{
-    weigh(&GY, nine)
-}
+// ---- The nine bytes about a pixel, in row order.
 
 // The byte under place j of the nine, through the border.
 fn sample(pixels: &[u8], size: Size, border: BorderMode, x: usize, y: usize, j: usize) -> u8
@@ -233,31 +203,6 @@ pub fn sobel_gradients(
 }
 
 // ---- Sobel's bytes, a run of pixels at a time.
-
-// S of the nine bytes about a pixel: at most 2,080,800 (01.Gradient.3).
-fn energy_of(nine: &[u8]) -> u32
-    requires { ⌜ length (now nine) ≡ 9 ⌝ }
-    ensures { λ r. ⌜ r ≡ energy (component gxTable (now (nine .entry))) (component gyTable (now (nine .entry))) ⌝ }
-{
-    let x = gx_of(nine) as i32;
-    let y = gy_of(nine) as i32;
-    (x * x + y * y) as u32
-}
-
-fn byte_of(nine: &[u8]) -> u8
-    requires { ⌜ length (now nine) ≡ 9 ⌝ }
-    ensures { λ r. ⌜ r ≡ nineByte (now (nine .entry)) ⌝ }
-{
-    root_byte(energy_of(nine))
-}
-
-// By the table: the pixels at the picture's sides are few.
-fn outer_byte(nine: &[u8]) -> u8
-    requires { ⌜ length (now nine) ≡ 9 ⌝ }
-    ensures { λ r. ⌜ r ≡ nineByte (now (nine .entry)) ⌝ }
-{
-    sobel_byte(energy_of(nine))
-}
 
 // From index a to index e, through the border.
 fn outer_bytes(pixels: &[u8], size: Size, border: BorderMode, a: usize, e: usize, out: &mut [u8])

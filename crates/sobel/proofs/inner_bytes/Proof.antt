@@ -6,7 +6,8 @@ use Prim.Native.Nat.{_≤_, _-_, _<_}
 use denote.Ref.{now}
 use lib.ListN.{length, length-set}
 use Rattle.border.specs.Lent.{written}
-use Rattle.sobel.specs.Nine.{nineByte, byteInside}
+use Rattle.root.specs.Components.{nineByte}
+use Rattle.sobel.specs.Nine.{byteInside}
 use Rattle.border.proofs.Writing.{write-start, write-more}
 use Rattle.sobel.proofs.inner_bytes.Statement.{statement}
 use Rattle.sobel.proofs.inner_bytes.Tie as tie
@@ -47,7 +48,6 @@ inner-bytes-spec =
     μ-loop
     loop-holds
     (λ c κs. search needs)
-    (λ c. search needs)
     (λ c κs. search needs)
     (λ c. search needs)
     (λ c. search needs)

@@ -6,9 +6,10 @@ use Prim.Native.Nat.{_≤_, _-_, _<_}
 use denote.Ref.{now}
 use lib.ListN.{length, length-set}
 use Rattle.rules.specs.Gradient.{gxTable, gyTable}
-use Rattle.sobel.specs.Nine.{component, insideOf}
+use Rattle.root.specs.Components.{component}
+use Rattle.sobel.specs.Nine.{insideOf}
 use Rattle.border.specs.Lent.{written}
-use Rattle.sobel.proofs.Components.{stored}
+use Rattle.root.proofs.Components.{stored}
 use Rattle.border.proofs.Writing.{write-start, write-more}
 use Rattle.sobel.proofs.inner_gradients.Statement.{statement}
 use Rattle.sobel.proofs.inner_gradients.Tie as tie
@@ -27,9 +28,6 @@ loop-holds c = (c .before .pre .0 .from, refl, refl, omega arith, write-start _ 
 nine-inside-requires : tie.Need-nine-inside-requires Inv-loop μ-loop
 nine-inside-requires c κs = search needs
 
-slice-aggregate-gx-of : tie.Need-slice-aggregate-gx-of Inv-loop μ-loop
-slice-aggregate-gx-of c = search needs
-
 gx-of-requires : tie.Need-gx-of-requires Inv-loop μ-loop
 gx-of-requires c κs = search needs
 
@@ -39,14 +37,11 @@ mul-gy c = search needs
 slice-set-from-gy : tie.Need-slice-set-from-gy Inv-loop μ-loop
 slice-set-from-gy c = search needs
 
-slice-aggregate-gy-of : tie.Need-slice-aggregate-gy-of Inv-loop μ-loop
-slice-aggregate-gy-of c = search needs
-
 gy-of-requires : tie.Need-gy-of-requires Inv-loop μ-loop
 gy-of-requires c κs = search needs
 
-mul-t14 : tie.Need-mul-t14 Inv-loop μ-loop
-mul-t14 c = search needs
+mul-t13 : tie.Need-mul-t13 Inv-loop μ-loop
+mul-t13 c = search needs
 
 slice-set-from-gy-2 : tie.Need-slice-set-from-gy-2 Inv-loop μ-loop
 slice-set-from-gy-2 c = search needs
@@ -96,13 +91,11 @@ inner-gradients-spec =
     μ-loop
     loop-holds
     nine-inside-requires
-    slice-aggregate-gx-of
     gx-of-requires
     mul-gy
     slice-set-from-gy
-    slice-aggregate-gy-of
     gy-of-requires
-    mul-t14
+    mul-t13
     slice-set-from-gy-2
     add-i
     loop-less

@@ -6,7 +6,8 @@ use Prim.Native.Nat.{_≤_, _-_, _/_, _%_, _<_}
 use denote.Ref.{now}
 use lib.ListN.{length, length-set}
 use Rattle.border.specs.Lent.{written}
-use Rattle.sobel.specs.Nine.{Pixel, nineByte, byteOf}
+use Rattle.root.specs.Components.{nineByte}
+use Rattle.sobel.specs.Nine.{Pixel, byteOf}
 use Rattle.border.proofs.Writing.{write-start, write-more}
 use Rattle.sobel.proofs.Pixels.{pixel-at, byte-about-is}
 use Rattle.sobel.proofs.outer_bytes.Statement.{statement}
@@ -65,7 +66,6 @@ outer-bytes-spec =
     rem-nine-about
     div-nine-about
     nine-about-requires
-    (λ c. search needs)
     (λ c κs. search needs)
     (λ c. search needs)
     (λ c. search needs)

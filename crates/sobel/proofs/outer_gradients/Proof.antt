@@ -6,9 +6,10 @@ use Prim.Native.Nat.{_≤_, _-_, _/_, _%_, _<_}
 use denote.Ref.{now}
 use lib.ListN.{length, length-set}
 use Rattle.rules.specs.Gradient.{gxTable, gyTable}
-use Rattle.sobel.specs.Nine.{Pixel, component, gxOf, gyOf}
+use Rattle.root.specs.Components.{component}
+use Rattle.sobel.specs.Nine.{Pixel, gxOf, gyOf}
 use Rattle.border.specs.Lent.{written}
-use Rattle.sobel.proofs.Components.{stored}
+use Rattle.root.proofs.Components.{stored}
 use Rattle.border.proofs.Writing.{write-start, write-more}
 use Rattle.sobel.proofs.Pixels.{pixel-at, about-is}
 use Rattle.sobel.proofs.outer_gradients.Statement.{statement}
@@ -40,9 +41,6 @@ div-nine-about c = let p = about (c .before .before) .column in omega arith
 nine-about-requires : tie.Need-nine-about-requires Inv-loop μ-loop
 nine-about-requires c κs = about (c .before .before)
 
-slice-aggregate-gx-of : tie.Need-slice-aggregate-gx-of Inv-loop μ-loop
-slice-aggregate-gx-of c = search needs
-
 gx-of-requires : tie.Need-gx-of-requires Inv-loop μ-loop
 gx-of-requires c κs = search needs
 
@@ -51,9 +49,6 @@ mul-gy c = search needs
 
 slice-set-from-gy : tie.Need-slice-set-from-gy Inv-loop μ-loop
 slice-set-from-gy c = search needs
-
-slice-aggregate-gy-of : tie.Need-slice-aggregate-gy-of Inv-loop μ-loop
-slice-aggregate-gy-of c = search needs
 
 gy-of-requires : tie.Need-gy-of-requires Inv-loop μ-loop
 gy-of-requires c κs = search needs
@@ -111,11 +106,9 @@ outer-gradients-spec =
     rem-nine-about
     div-nine-about
     nine-about-requires
-    slice-aggregate-gx-of
     gx-of-requires
     mul-gy
     slice-set-from-gy
-    slice-aggregate-gy-of
     gy-of-requires
     mul-t13
     slice-set-from-gy-2

@@ -14,7 +14,7 @@ use mir.ValLaws.{toZ-ofZ}
 use Rattle.rules.specs.Gradient.{gxTable, gyTable, energy}
 use Rattle.rules.proofs.Sizes.{sfits, back, square}
 use Rattle.rules.proofs.Gradients.{weighted, gx-small, gy-small}
-use Rattle.sobel.specs.Nine.{component}
+use Rattle.root.specs.Components.{component}
 
 -- a component of nine bytes is within 1020 of zero
 module _ (nine : List ℕ) (byte : (i : ℕ) → getD nine i 0 < 256) where

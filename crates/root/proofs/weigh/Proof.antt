@@ -10,10 +10,10 @@ use mir.Syntax.{w16}
 use mir.Val.{ofZ, toZ}
 use Rattle.rules.specs.Gradient.{sumZ}
 use Rattle.rules.proofs.Sizes.{back}
-use Rattle.sobel.specs.Nine.{component}
-use Rattle.sobel.proofs.Components.{term, sum-within, byte-fits, product-fits, sum-is, sum-fits}
-use Rattle.sobel.proofs.weigh.Statement.{statement}
-use Rattle.sobel.proofs.weigh.Tie as tie
+use Rattle.root.specs.Components.{component}
+use Rattle.root.proofs.Components.{term, sum-within, byte-fits, product-fits, sum-is, sum-fits}
+use Rattle.root.proofs.weigh.Statement.{statement}
+use Rattle.root.proofs.weigh.Tie as tie
 
 abbrev Inv-loop : tie.InvT-loop
 Inv-loop weights nine sum₀ j₀ sum j = (j ≤ 9) × (natAbs (sumZ (term weights nine) j) ≤ 510 * j) × (sum ≡ ofZ w16 (sumZ (term weights nine) j))

@@ -2,8 +2,8 @@
 use borrow.Author.Needs.{needs}
 use mathlib.Core.Path.{ap, _∙_}
 use Rattle.rules.specs.Root.{sobelByte}
-use Rattle.sobel.proofs.byte_of.Statement.{statement}
-use Rattle.sobel.proofs.byte_of.Tie as tie
+use Rattle.root.proofs.byte_of.Statement.{statement}
+use Rattle.root.proofs.byte_of.Tie as tie
 
 returns : tie.Need-returns
 returns c = c .root-byte .ensures ∙ ap sobelByte (c .before .energy-of .ensures)

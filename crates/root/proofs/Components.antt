@@ -1,5 +1,5 @@
 -- A component of nine bytes, as the code sums it at 16 bits. Assumes nothing.
-use mathlib.Core.Path.{_≡_, refl}
+use mathlib.Core.Path.{_≡_}
 use mathlib.Core.Bool.{Bool, true, _&&_}
 use mathlib.Core.List.{List, [], _∷_}
 use Prim.Native.Nat.{ℕ, zero, suc, _+_, _*_, _^_, _<_, _≤_}
@@ -8,15 +8,15 @@ use native.Mathlib.Numerals.{add-one}
 use native.Mathlib.Omega.{arith}
 use lib.Dec.{T, leb, leb→le}
 use lib.Ieee.Fits.{and-l, and-r}
-use lib.ListN.{getD}
+use lib.ListN.{length, getD}
 use lib.IntN.{ℤ, pos, natAbs, _+ℤ_, _*ℤ_}
 use lib.Signed.{mag}
 use mir.Syntax.{w16}
 use mir.Val.{SFits, toZ, ofZ}
 use mir.ValLaws.{toZ-ofZ, toZ-pos}
-use Rattle.rules.specs.Gradient.{gxTable, gyTable, sumZ}
+use Rattle.rules.specs.Gradient.{sumZ}
 use Rattle.rules.proofs.Sizes.{sfits, back, abs-mul, sum-size}
-use Rattle.sobel.specs.Nine.{Weights}
+use Rattle.root.specs.Components.{Weights}
 
 -- what is stored as an i16 is read back
 pub stored : (z : ℤ) → mag z < 2 ^ 15 → toZ w16 (ofZ w16 z) ≡ z
@@ -63,7 +63,7 @@ module _ (table : List ℤ) (nine : List ℕ) (small : Weights table) (byte : (i
       pub sum-fits : SFits w16 (toZ w16 bits +ℤ toZ w16 (ofZ w16 product))
       sum-fits = rw sum-is (sfits w16 (sumZ (term table nine) (j + 1)) (omega (arith, sum-within (j + 1))))
 
--- ---- the two tables have small weights: one computed test each
+-- ---- a table that the checker can compute has small weights: one test
 
 abbrev within : List ℤ → Bool
 within [] = true
@@ -74,8 +74,5 @@ sizes [] t j = omega arith
 sizes (z ∷ zs) t zero = leb→le (natAbs z) 2 (and-l (leb (natAbs z) 2) (within zs) t)
 sizes (z ∷ zs) t (suc j) = sizes zs (and-r (leb (natAbs z) 2) (within zs) t) j
 
-pub gx-weights : Weights gxTable
-gx-weights = record { count = refl; small = sizes gxTable tt }
-
-pub gy-weights : Weights gyTable
-gy-weights = record { count = refl; small = sizes gyTable tt }
+pub weights : (l : List ℤ) → length l ≡ 9 → T (within l) → Weights l
+weights l n t = record { count = n; small = sizes l t }

@@ -1,0 +1,21 @@
+-- A component of nine bytes, and Sobel's byte of them.
+use Prim.Native.Nat.{ℕ, _≤_}
+use mathlib.Core.Path.{_≡_}
+use mathlib.Core.List.{List}
+use lib.ListN.{length, getD}
+use lib.IntN.{ℤ, pos, natAbs, _*ℤ_}
+use Rattle.rules.specs.Gradient.{gxTable, gyTable, sumZ, energy}
+use Rattle.rules.specs.Root.{sobelByte}
+
+-- a table of nine small weights
+pub record Weights (table : List ℤ) : Type 0 where
+  pub count : length table ≡ 9
+  pub small : (j : ℕ) → natAbs (getD table j (pos 0)) ≤ 2
+
+-- nine bytes in row order, weighted
+unfoldable pub component : List ℤ → List ℕ → ℤ
+component table nine = sumZ (λ j. getD table j (pos 0) *ℤ pos (getD nine j 0)) 9
+
+-- Sobel's byte of nine bytes
+abbrev pub nineByte : List ℕ → ℕ
+nineByte nine = sobelByte (energy (component gxTable nine) (component gyTable nine))
