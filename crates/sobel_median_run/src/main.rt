@@ -1,43 +1,48 @@
-// Runs Sobel and the median on 01's examples, on small pictures under each border, and on every refusal. Each line has what was got and
-// what is wanted; what is wanted stands here, from 01. What is past a picture, or in the buffers of a refused call, is 7 before and after.
-mod bytes;
+// Runs Sobel and the median on 01's examples, on small pictures under each border, and on every refusal: the cases stand in the file stdin,
+// one to a line, with what 01 wants of each. Each line has what was got and what is wanted.
+mod case;
+mod filters;
 mod gradients;
-mod medians;
-mod refused_gradients;
 
-use rules::BorderMode;
-use rules::Size;
+use cases::wide;
+use libc::STDIN_FILENO;
 
-pub(crate) fn size(width: usize, height: usize) -> Size {
-    Size { width, height }
-}
-
-// The beginning of a line: a border, or how many pixels are lent for which sides.
-pub(crate) fn say_border(border: BorderMode) {
-    match border {
-        BorderMode::Zero => report::words(b" Zero"),
-        BorderMode::Clamp => report::words(b" Clamp"),
-        BorderMode::Mirror => report::words(b" Mirror"),
-    }
-}
-
-pub(crate) fn say_call(n: usize, size: Size) {
-    report::part(b" pixels ", n as u64);
-    report::part(b" for ", size.width as u64);
-    report::part(b" by ", size.height as u64);
-}
-
-// 640 bytes of v, and past them a seven.
-pub(crate) fn all_640(out: &[u8], v: u8) {
-    if 640 < out.len() {
-        report::yes(b"  all the same", report::all_are(&out[0..640], v));
-        report::yes(b"  past the picture", report::all_are(&out[640..], 7));
-    }
-}
+// More lines than the file has.
+const MOST_LINES: usize = 180;
 
 fn main() {
-    gradients::run();
-    refused_gradients::run();
-    bytes::run();
-    medians::run();
+    let mut text = io::large_buffer();
+    let n = io::read_full(STDIN_FILENO, &mut text);
+    lines_of(&text[..n]);
+}
+
+fn lines_of(text: &[u8]) {
+    let mut at = 0;
+    let mut i = 0;
+    while i < MOST_LINES {
+        line(text, &mut at);
+        i += 1;
+    }
+}
+
+// A line's first number says what its case is of; 9 is a heading.
+fn line(text: &[u8], at: &mut usize) {
+    let v = cases::case(text, at);
+    let kind = v[0];
+    match kind {
+        1 => gradients::run(&v),
+        2 => gradients::widest(&v),
+        3 => byte(v[1], v[2]),
+        4 => filters::run(&v),
+        5 => filters::widest(&v),
+        6 => filters::run(&v),
+        7 => filters::widest(&v),
+        8 => filters::mixed(&v),
+        9 => report::heading(b""),
+        _ => {}
+    }
+}
+
+fn byte(s: u32, wanted: u32) {
+    report::number(b"", sobel::sobel_byte(s) as u64, wide(wanted));
 }

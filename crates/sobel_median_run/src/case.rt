@@ -1,0 +1,82 @@
+// What the numbers of a call's case mean, by their places in its line.
+use cases::at_most;
+use cases::count;
+use rules::BorderMode;
+use rules::Size;
+ghost use Prim.Native.Nat.{_≤_};
+ghost use lib.ListN.{length};
+ghost use mathlib.Core.Path.{_≡_};
+
+// Place 1: the border.
+pub(crate) fn border_of(n: u32) -> BorderMode {
+    match n {
+        0 => BorderMode::Zero,
+        1 => BorderMode::Clamp,
+        _ => BorderMode::Mirror,
+    }
+}
+
+// In place of a border: how else the filter is made.
+pub(crate) const BY_NEW: u32 = 3;
+
+pub(crate) const BY_DEFAULT: u32 = 4;
+
+pub(crate) const CONSTANT: u32 = 5;
+
+// Places 2 and 3.
+pub(crate) fn size(v: &[u32; 80]) -> Size {
+    Size {
+        width: count(v[2]),
+        height: count(v[3]),
+    }
+}
+
+// Place 4: how many pixels of those that stand from 10 on. Place 5: the number that is wanted. Places 6 and 7: how many entries of an
+// output are lent, all of them 7 before the call; what they are after it stands from 20 on, of gy from 30 on. Place 8: the median's window.
+pub(crate) fn pixel_count(v: &[u32; 80]) -> usize
+    ensures { λ r. ⌜ r ≤ 10 ⌝ }
+{
+    at_most(v[4], 10)
+}
+
+pub(crate) const REFUSAL: usize = 5;
+
+pub(crate) const ROOM: usize = 6;
+
+pub(crate) const ROOM_OF_GY: usize = 7;
+
+pub(crate) const WINDOW: usize = 8;
+
+pub(crate) const PIXELS: usize = 10;
+
+pub(crate) const WANTED: usize = 20;
+
+pub(crate) const WANTED_GY: usize = 30;
+
+pub(crate) fn bytes_at(v: &[u32], from: usize) -> [u8; 10]
+    ensures { λ r. ⌜ 10 ≡ length r ⌝ }
+{
+    let mut out = [0u8; 10];
+    if from < 70 {
+        let end = from + 10;
+        if end <= v.len() {
+            cases::bytes(&v[from..end], &mut out);
+            return out;
+        }
+    }
+    [0; 10]
+}
+
+pub(crate) fn numbers_at(v: &[u32], from: usize) -> [i16; 10]
+    ensures { λ r. ⌜ 10 ≡ length r ⌝ }
+{
+    let mut out = [0i16; 10];
+    if from < 70 {
+        let end = from + 10;
+        if end <= v.len() {
+            cases::numbers(&v[from..end], &mut out);
+            return out;
+        }
+    }
+    [0; 10]
+}
