@@ -18,7 +18,7 @@ use Rattle.rules.proofs.Border.{diff, sample-inside}
 use Rattle.border.specs.Lent.{written}
 use Rattle.refusals.specs.Rows.{Picture}
 use Rattle.border.proofs.Writing.{Row, rewrite-as, write-on}
-use Rattle.root.specs.Components.{component, nineByte}
+use Rattle.nine.specs.Components.{component, nineByte}
 use Rattle.sobel.specs.Nine.{Pixel, nineAbout, nineInside, insideOf, Inner, byteInside}
 
 -- the pixel with index i

@@ -11,7 +11,7 @@ use Rattle.rules.specs.Calls.{sobelAt}
 use Rattle.rules.specs.declared.Size.{Size}
 use Rattle.rules.specs.declared.BorderMode.{BorderMode}
 use Rattle.refusals.specs.Rows.{Picture}
-use Rattle.root.specs.Components.{component, nineByte}
+use Rattle.nine.specs.Components.{component, nineByte}
 
 -- a pixel of a lent picture
 pub record Pixel (d : Size) (pixels : List ℕ) (x y : ℕ) : Type 0 where

@@ -1,12 +1,12 @@
 // Sobel's gradient and Sobel's own bytes. Each public call refuses by number or runs by document 01's rules.
 use border::coord::place;
 use border::picture::read;
+use nine::byte_of;
+use nine::gx_of;
+use nine::gy_of;
+use nine::outer_byte;
+pub use nine::sobel_byte;
 use refusals::filter::of_picture;
-use root::byte_of;
-use root::gx_of;
-use root::gy_of;
-use root::outer_byte;
-pub use root::sobel_byte;
 use rules::ACCEPTED;
 use rules::BorderMode;
 use rules::REFUSED_ROOM;

@@ -6,7 +6,7 @@ use Prim.Native.Nat.{_≤_, _-_, _<_}
 use denote.Ref.{now}
 use lib.ListN.{length, length-set}
 use Rattle.border.specs.Lent.{written}
-use Rattle.root.specs.Components.{nineByte}
+use Rattle.nine.specs.Components.{nineByte}
 use Rattle.sobel.specs.Nine.{byteInside}
 use Rattle.border.proofs.Writing.{write-start, write-more}
 use Rattle.sobel.proofs.inner_bytes.Statement.{statement}

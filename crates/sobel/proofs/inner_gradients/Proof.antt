@@ -6,10 +6,10 @@ use Prim.Native.Nat.{_≤_, _-_, _<_}
 use denote.Ref.{now}
 use lib.ListN.{length, length-set}
 use Rattle.rules.specs.Gradient.{gxTable, gyTable}
-use Rattle.root.specs.Components.{component}
+use Rattle.nine.specs.Components.{component}
 use Rattle.sobel.specs.Nine.{insideOf}
 use Rattle.border.specs.Lent.{written}
-use Rattle.root.proofs.Components.{stored}
+use Rattle.nine.proofs.Components.{stored}
 use Rattle.border.proofs.Writing.{write-start, write-more}
 use Rattle.sobel.proofs.inner_gradients.Statement.{statement}
 use Rattle.sobel.proofs.inner_gradients.Tie as tie
