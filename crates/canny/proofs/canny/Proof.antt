@@ -41,15 +41,6 @@ same-length-4 c = c .before .before .before .before .before .before .before .bef
 same-length-5 : tie.Need-same-length-5
 same-length-5 c = c .before .before .before .before .before .before .before .blurred .given
 
-same-length-6 : tie.Need-same-length-6
-same-length-6 c = c .before .before .before .before .before .marks .given
-
-same-length-7 : tie.Need-same-length-7
-same-length-7 c = c .before .before .before .stack .given
-
-same-length-8 : tie.Need-same-length-8
-same-length-8 c = c .before .map .given
-
 returns-2 : tie.Need-returns-2
 returns-2 c =
     let r = c .before .before .before .before .before .before .before .before .before .before .before .before .before .before in
@@ -62,4 +53,5 @@ pub canny-spec : {M : Type 1} → statement M
 canny-spec =
     tie.close
     (tie.spec (λ c κs. search needs) (λ c κs. search needs) returns run-requires same-length same-length-2 same-length-3 same-length-4 same-length-5
-    same-length-6 same-length-7 same-length-8 returns-2)
+    (λ c. c .before .before .before .before .before .marks .given) (λ c. c .before .before .before .stack .given) (λ c. c .before .map .given)
+    returns-2)

@@ -15,9 +15,6 @@ ok c = mappable _ _ _ (sym (c .before .of-map .ensures) ∙ c .if1 .left)
 returns : tie.Need-returns
 returns c = map-refused _ _ _ _ _ (c .before .of-map .ensures) (c .if1 .taken)
 
-mul-fill-map : tie.Need-mul-fill-map
-mul-fill-map c = omega (arith, ok (c .before .before) .small)
-
 fill-map-requires : tie.Need-fill-map-requires
 fill-map-requires c κs = (ok (c .before .before) .marks-long, ok (c .before .before) .out-long)
 
@@ -29,4 +26,5 @@ returns-2 c =
 pub map-spec : {M : Type 1} → statement M
 map-spec =
     tie.close
-    (tie.spec (λ c κs. search needs) (λ c. search needs) returns mul-fill-map fill-map-requires (λ c. search needs) returns-2)
+    (tie.spec (λ c κs. search needs) (λ c. search needs) returns (λ c. omega (arith, ok (c .before .before) .small)) fill-map-requires
+    (λ c. search needs) returns-2)

@@ -7,9 +7,6 @@ use Rattle.magnitude.proofs.Bits.{no-nan-le}
 use Rattle.magnitude.proofs.bits_of.Statement.{statement}
 use Rattle.magnitude.proofs.bits_of.Tie as tie
 
-float-to-bits-result : tie.Need-float-to-bits-result
-float-to-bits-result c = no-nan-le _ _ (c .if1 .taken)
-
 returns : tie.Need-returns
 returns c n = ofBits-toBits binary32 _ (is-true (c .before .good .0 .1))
 
@@ -17,4 +14,4 @@ returns-2 : tie.Need-returns-2
 returns-2 c n = absurd (n refl)
 
 pub bits-of-spec : {M : Type 1} → statement M
-bits-of-spec = tie.close (tie.spec float-to-bits-result returns returns-2)
+bits-of-spec = tie.close (tie.spec (λ c. no-nan-le _ _ (c .if1 .taken)) returns returns-2)

@@ -16,12 +16,6 @@ returns : tie.Need-returns
 unfolding gradientMagnitude
 returns c = refused-is _ _ (c .before .of-magnitude .ensures) _ (now (c .before .before .before .before .args .magnitude)) (c .if1 .taken)
 
-mul-magnitudes : tie.Need-mul-magnitudes
-mul-magnitudes c = omega (arith, fit (c .before) .sides .small)
-
-magnitudes-requires : tie.Need-magnitudes-requires
-magnitudes-requires c κs = let p = fit (c .before .before) in search needs
-
 returns-2 : tie.Need-returns-2
 unfolding gradientMagnitude
 returns-2 c =
@@ -31,4 +25,5 @@ returns-2 c =
 pub gradient-magnitude-spec : {M : Type 1} → statement M
 gradient-magnitude-spec =
     tie.close
-    (tie.spec (λ c κs. search needs) (λ c. search needs) returns mul-magnitudes magnitudes-requires (λ c. search needs) returns-2)
+    (tie.spec (λ c κs. search needs) (λ c. search needs) returns (λ c. omega (arith, fit (c .before) .sides .small))
+    (λ c κs. let p = fit (c .before .before) in search needs) (λ c. search needs) returns-2)

@@ -19,17 +19,8 @@ Inv-loop2 t g m₀ m = (m < 2 ^ 24) × (t ≤ m * m + m)
 abbrev μ-loop2 : tie.MeasureT-loop2
 μ-loop2 t g m₀ m = m
 
-mul-loop : tie.Need-mul-loop Inv-loop μ-loop Inv-loop2 μ-loop2
-mul-loop c = omega (arith, square-fits (c .loop .m) (c .loop .inv))
-
-add-loop : tie.Need-add-loop Inv-loop μ-loop Inv-loop2 μ-loop2
-add-loop c = omega (arith, square-fits (c .loop .m) (c .loop .inv))
-
 loop-again : tie.Need-loop-again Inv-loop μ-loop Inv-loop2 μ-loop2
 loop-again c = more-fits (c .before .loop .m) (c .before .before .args .t) (c .before .loop .inv) (c .before .before .pre .high) (c .loop-test .taken)
-
-mul-loop2 : tie.Need-mul-loop2 Inv-loop μ-loop Inv-loop2 μ-loop2
-mul-loop2 c = omega (arith, square-fits (c .loop2 .m) (c .loop2 .inv .0))
 
 sub-m : tie.Need-sub-m Inv-loop μ-loop Inv-loop2 μ-loop2
 sub-m c = some (c .before .loop2 .m) _ (c .loop2-test .taken) (omega arith)
@@ -48,5 +39,6 @@ returns c =
 pub mend-spec : {M : Type 1} → statement M
 mend-spec =
     tie.close
-    (tie.spec Inv-loop μ-loop Inv-loop2 μ-loop2 (λ c. search needs) mul-loop add-loop (λ c. search needs) (λ c. search needs) loop-again
-    (λ c. search needs) (λ c. search needs) mul-loop2 sub-m loop2-less loop2-again returns)
+    (tie.spec Inv-loop μ-loop Inv-loop2 μ-loop2 (λ c. search needs) (λ c. omega (arith, square-fits (c .loop .m) (c .loop .inv)))
+    (λ c. omega (arith, square-fits (c .loop .m) (c .loop .inv))) (λ c. search needs) (λ c. search needs) loop-again (λ c. search needs)
+    (λ c. search needs) (λ c. omega (arith, square-fits (c .loop2 .m) (c .loop2 .inv .0))) sub-m loop2-less loop2-again returns)

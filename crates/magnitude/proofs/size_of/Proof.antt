@@ -3,9 +3,6 @@ use Rattle.magnitude.proofs.Components.{wide-fits, as-is, turned-fits, 
 use Rattle.magnitude.proofs.size_of.Statement.{statement}
 use Rattle.magnitude.proofs.size_of.Tie as tie
 
-cast-z : tie.Need-cast-z
-cast-z c = wide-fits (c .args .g) (c .fits .g)
-
 sub-result : tie.Need-sub-result
 sub-result c = turned-fits (c .before .args .g) (c .before .fits .g) (c .if1 .taken)
 
@@ -22,4 +19,4 @@ returns-2 : tie.Need-returns-2
 returns-2 c = let s = c .before in size-is (s .args .g) (s .fits .g) _ (as-is (s .args .g) (s .fits .g) (c .if1 .left))
 
 pub size-of-spec : {M : Type 1} → statement M
-size-of-spec = tie.close (tie.spec cast-z sub-result cast-result cast-result-2 returns returns-2)
+size-of-spec = tie.close (tie.spec (λ c. wide-fits (c .args .g) (c .fits .g)) sub-result cast-result cast-result-2 returns returns-2)

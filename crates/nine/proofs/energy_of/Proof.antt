@@ -11,33 +11,18 @@ use Rattle.nine.proofs.Energies.{gx-within, gy-within, wide-fits, squar
 use Rattle.nine.proofs.energy_of.Statement.{statement}
 use Rattle.nine.proofs.energy_of.Tie as tie
 
-weigh-requires : tie.Need-weigh-requires
-weigh-requires c κs = (weights _ refl tt, search needs)
-
 small-x : (c : tie.After-weigh) → natAbs (c .weigh .result) ≤ 1020
 small-x c =
     let k = c .before .before in
     rw (c .weigh .ensures) (gx-within (now (k .before .args .nine)) (λ i. omega (arith, k .shared-slice-known .given i)))
-
-cast-x : tie.Need-cast-x
-cast-x c = wide-fits (c .weigh .result) (small-x c)
-
-weigh-requires-2 : tie.Need-weigh-requires-2
-weigh-requires-2 c κs = (weights _ refl tt, search needs)
 
 small-y : (c : tie.After-weigh2) → natAbs (c .weigh2 .result) ≤ 1020
 small-y c =
     let k = c .before .before .before .before in
     rw (c .weigh2 .ensures) (gy-within (now (k .before .args .nine)) (λ i. omega (arith, k .shared-slice-known .given i)))
 
-cast-y : tie.Need-cast-y
-cast-y c = wide-fits (c .weigh2 .result) (small-y c)
-
 mul-result : tie.Need-mul-result
 mul-result c = square-fits (c .before .before .weigh .result) (small-x (c .before .before))
-
-mul-result-2 : tie.Need-mul-result-2
-mul-result-2 c = square-fits (c .weigh2 .result) (small-y c)
 
 add-result : tie.Need-add-result
 add-result c = both-fits (c .before .before .weigh .result) (c .weigh2 .result) (small-x (c .before .before)) (small-y c)
@@ -53,15 +38,6 @@ returns c =
 pub energy-of-spec : {M : Type 1} → statement M
 energy-of-spec =
     tie.close
-    (tie.spec
-    (λ c. search needs)
-    weigh-requires
-    cast-x
-    (λ c. search needs)
-    weigh-requires-2
-    cast-y
-    mul-result
-    mul-result-2
-    add-result
-    cast-result
-    returns)
+    (tie.spec (λ c. search needs) (λ c κs. (weights _ refl tt, search needs)) (λ c. wide-fits (c .weigh .result) (small-x c)) (λ c. search needs)
+    (λ c κs. (weights _ refl tt, search needs)) (λ c. wide-fits (c .weigh2 .result) (small-y c)) mul-result
+    (λ c. square-fits (c .weigh2 .result) (small-y c)) add-result cast-result returns)

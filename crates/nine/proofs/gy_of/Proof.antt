@@ -5,8 +5,5 @@ use Rattle.nine.proofs.Components.{weights}
 use Rattle.nine.proofs.gy_of.Statement.{statement}
 use Rattle.nine.proofs.gy_of.Tie as tie
 
-weigh-requires : tie.Need-weigh-requires
-weigh-requires c κs = (weights _ refl tt, search needs)
-
 pub gy-of-spec : {M : Type 1} → statement M
-gy-of-spec = tie.close (tie.spec (λ c. search needs) weigh-requires (λ c. search needs))
+gy-of-spec = tie.close (tie.spec (λ c. search needs) (λ c κs. (weights _ refl tt, search needs)) (λ c. search needs))

@@ -14,11 +14,10 @@ left c = let a = c .before .args in gained (a .s) (a .n) (a .b) _ (c .before .pr
 mul-gain : tie.Need-mul-gain
 mul-gain c = record { fits = product-fits (c .args .s) (c .args .n) (c .args .b) (c .pre) }
 
-add-result : tie.Need-add-result
-add-result c = let l = left c in omega arith
-
 returns : tie.Need-returns
 returns c = left c
 
 pub half-spec : {M : Type 1} → statement M
-half-spec = tie.close (tie.spec (λ c. search needs) (λ c. search needs) mul-gain (λ c κs. search needs) add-result returns)
+half-spec =
+    tie.close
+    (tie.spec (λ c. search needs) (λ c. search needs) mul-gain (λ c κs. search needs) (λ c. let l = left c in omega arith) returns)

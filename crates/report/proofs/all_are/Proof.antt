@@ -21,15 +21,6 @@ loop-holds : tie.Need-loop-holds Inv-loop μ-loop
 unfolding every
 loop-holds c = (zero≤, refl)
 
-shared-slice-read-same : tie.Need-shared-slice-read-same Inv-loop μ-loop
-shared-slice-read-same c = search needs
-
-add-i : tie.Need-add-i Inv-loop μ-loop
-add-i c = search needs
-
-loop-less : tie.Need-loop-less Inv-loop μ-loop
-loop-less c = search needs
-
 loop-again : tie.Need-loop-again Inv-loop μ-loop
 loop-again c = (search needs, every-more _ _ _ _ (c .before .before .loop .inv .1) refl)
 
@@ -42,4 +33,4 @@ returns c =
 pub all-are-spec : {M : Type 1} → statement M
 all-are-spec =
     tie.close
-    (tie.spec Inv-loop μ-loop loop-holds shared-slice-read-same add-i loop-less loop-again returns)
+    (tie.spec Inv-loop μ-loop loop-holds (λ c. search needs) (λ c. search needs) (λ c. search needs) loop-again returns)

@@ -13,9 +13,6 @@ no-nan nan e = subst T (sym e) tt
 no-nan (inf s) e = tt
 no-nan (fin s m d) e = tt
 
-float-to-bits-result : tie.Need-float-to-bits-result
-float-to-bits-result c = no-nan _ (c .if1 .taken)
-
 returns : tie.Need-returns
 returns c = rw (c .if1 .taken)
 
@@ -23,4 +20,4 @@ returns-2 : tie.Need-returns-2
 returns-2 c = rw (c .if1 .left)
 
 pub bits-spec : {M : Type 1} → statement M
-bits-spec = tie.close (tie.spec float-to-bits-result returns returns-2)
+bits-spec = tie.close (tie.spec (λ c. no-nan _ (c .if1 .taken)) returns returns-2)

@@ -14,21 +14,9 @@ abbrev μ-loop : tie.MeasureT-loop
 loop-holds : tie.Need-loop-holds Inv-loop μ-loop
 loop-holds c = search needs
 
-mul-signed-decimal : tie.Need-mul-signed-decimal Inv-loop μ-loop
-mul-signed-decimal c = search needs
-
 shared-slice-copy-out-signed-decimal :
     tie.Need-shared-slice-copy-out-signed-decimal Inv-loop μ-loop
 shared-slice-copy-out-signed-decimal c = search needs
-
-signed-decimal-requires : tie.Need-signed-decimal-requires Inv-loop μ-loop
-signed-decimal-requires c κs = search needs
-
-add-i : tie.Need-add-i Inv-loop μ-loop
-add-i c = search needs
-
-loop-less : tie.Need-loop-less Inv-loop μ-loop
-loop-less c = search needs
 
 loop-again : tie.Need-loop-again Inv-loop μ-loop
 loop-again c = search needs
@@ -39,14 +27,5 @@ returns c = search needs
 pub signed-decimals-spec : {M : Type 1} → statement M
 signed-decimals-spec =
     tie.close
-    (tie.spec
-    Inv-loop
-    μ-loop
-    loop-holds
-    mul-signed-decimal
-    shared-slice-copy-out-signed-decimal
-    signed-decimal-requires
-    add-i
-    loop-less
-    loop-again
-    returns)
+    (tie.spec Inv-loop μ-loop loop-holds (λ c. search needs) shared-slice-copy-out-signed-decimal (λ c κs. search needs) (λ c. search needs)
+    (λ c. search needs) loop-again returns)

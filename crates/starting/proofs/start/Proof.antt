@@ -13,12 +13,6 @@ ok c = startable _ _ _ _ _ (sym (c .before .of-start .ensures) ∙ c .if1 .left)
 returns : tie.Need-returns
 returns c = start-refused _ _ _ _ _ _ (c .before .of-start .ensures) (c .if1 .taken)
 
-mul-n : tie.Need-mul-n
-mul-n c = omega (arith, ok (c .before) .sides .small)
-
-clear-requires : tie.Need-clear-requires
-clear-requires c κs = ok (c .before .before) .stack-long
-
 class-all-requires : tie.Need-class-all-requires
 class-all-requires c κs =
     let o = ok (c .before .before .before .before .before .before .before) in
@@ -34,5 +28,5 @@ returns-2 c =
 pub start-spec : {M : Type 1} → statement M
 start-spec =
     tie.close
-    (tie.spec (λ c κs. search needs) (λ c. search needs) (λ c. search needs) returns mul-n clear-requires class-all-requires (λ c. search needs)
-    (λ c. search needs) returns-2)
+    (tie.spec (λ c κs. search needs) (λ c. search needs) (λ c. search needs) returns (λ c. omega (arith, ok (c .before) .sides .small))
+    (λ c κs. ok (c .before .before) .stack-long) class-all-requires (λ c. search needs) (λ c. search needs) returns-2)

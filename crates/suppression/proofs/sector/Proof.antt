@@ -30,32 +30,8 @@ module _ (c : tie.After-size-of2) where
 returns : tie.Need-returns
 returns c = both-zero _ _ _ _ (a-is (c .before)) (b-is (c .before)) (c .if1 .taken)
 
-mul-twice : tie.Need-mul-twice
-mul-twice c = omega (arith, products (c .before))
-
-mul-twice-2 : tie.Need-mul-twice-2
-mul-twice-2 c = omega (arith, products (c .before))
-
-mul-if2 : tie.Need-mul-if2
-mul-if2 c = omega (arith, products (c .before))
-
-add-if2 : tie.Need-add-if2
-add-if2 c = omega (arith, products (c .before))
-
-mul-if2-2 : tie.Need-mul-if2-2
-mul-if2-2 c = omega (arith, products (c .before))
-
 returns-2 : tie.Need-returns-2
 returns-2 c = along-x _ _ _ _ (a-is (c .before .before)) (b-is (c .before .before)) (c .before .if1 .left) (c .if2 .taken)
-
-mul-if3 : tie.Need-mul-if3
-mul-if3 c = omega (arith, products (c .before .before))
-
-add-if3 : tie.Need-add-if3
-add-if3 c = omega (arith, products (c .before .before))
-
-mul-if3-2 : tie.Need-mul-if3-2
-mul-if3-2 c = omega (arith, products (c .before .before))
 
 returns-3 : tie.Need-returns-3
 returns-3 c =
@@ -79,5 +55,7 @@ returns-5 c =
 pub sector-spec : {M : Type 1} → statement M
 sector-spec =
     tie.close
-    (tie.spec (λ c κs. search needs) (λ c κs. search needs) (λ c. search needs) returns mul-twice mul-twice-2 mul-if2 add-if2 mul-if2-2 returns-2
-    mul-if3 add-if3 mul-if3-2 returns-3 returns-4 returns-5)
+    (tie.spec (λ c κs. search needs) (λ c κs. search needs) (λ c. search needs) returns (λ c. omega (arith, products (c .before)))
+    (λ c. omega (arith, products (c .before))) (λ c. omega (arith, products (c .before))) (λ c. omega (arith, products (c .before)))
+    (λ c. omega (arith, products (c .before))) returns-2 (λ c. omega (arith, products (c .before .before)))
+    (λ c. omega (arith, products (c .before .before))) (λ c. omega (arith, products (c .before .before))) returns-3 returns-4 returns-5)

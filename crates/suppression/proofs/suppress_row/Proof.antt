@@ -50,9 +50,6 @@ loop-again c =
           (between-is (length (now (a .out))) _ _ _ _ (l .x) _ (l .inv .0) (c .before .loop-test .taken) (c .suppressed .ensures)),
     )
 
-same-length : tie.Need-same-length Inv-loop μ-loop
-same-length c = simp length-set (omega arith)
-
 returns : tie.Need-returns Inv-loop μ-loop
 returns c =
     let l = c .before .loop in
@@ -68,4 +65,5 @@ pub suppress-row-spec : {M : Type 1} → statement M
 suppress-row-spec =
     tie.close
     (tie.spec Inv-loop μ-loop (λ c. search needs) loop-holds (λ c. search needs) (λ c. search needs) (λ c κs. search needs) (λ c. search needs)
-    (λ c. search needs) (λ c. search needs) (λ c. search needs) loop-again (λ c. search needs) (λ c. search needs) same-length returns)
+    (λ c. search needs) (λ c. search needs) (λ c. search needs) loop-again (λ c. search needs) (λ c. search needs)
+    (λ c. simp length-set (omega arith)) returns)

@@ -48,15 +48,6 @@ module _ (c : tie.After-struct-known3) where
   small : area (S E .args .size) ≤ maxSide * maxSide
   small = mul-le-mul (picture E .width-fits) (picture E .height-fits)
 
-mul-i : tie.Need-mul-i
-mul-i c = omega (arith, inside c, small c)
-
-add-i : tie.Need-add-i
-add-i c = omega (arith, inside c, small c)
-
-shared-slice-read-result : tie.Need-shared-slice-read-result
-shared-slice-read-result c = rw (picture (E (c .before)) .long) (inside (c .before))
-
 returns-4 : tie.Need-returns-4
 returns-4 c =
     let e = c .before .before in
@@ -65,12 +56,5 @@ returns-4 c =
 pub read-spec : {M : Type 1} → statement M
 read-spec =
     tie.close
-    (tie.spec
-    (λ c κs. search needs)
-    returns
-    returns-2
-    returns-3
-    mul-i
-    add-i
-    shared-slice-read-result
-    returns-4)
+    (tie.spec (λ c κs. search needs) returns returns-2 returns-3 (λ c. omega (arith, inside c, small c)) (λ c. omega (arith, inside c, small c))
+    (λ c. rw (picture (E (c .before)) .long) (inside (c .before))) returns-4)

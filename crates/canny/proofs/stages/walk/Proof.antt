@@ -16,9 +16,6 @@ same-length c = omega (arith, c .before .before .before .before .before .before 
 same-length-2 : tie.Need-same-length-2
 same-length-2 c = omega (arith, c .before .before .before .before .before .before .before .before .stack2 .given, c .before .before .before .before .before .before .before .before .before .before .before .before .before .before .before .before .stack .given)
 
-same-length-3 : tie.Need-same-length-3
-same-length-3 c = c .before .out .given
-
 returns : tie.Need-returns
 returns c =
     let m = c .before .before in
@@ -32,4 +29,4 @@ pub walk-spec : {M : Type 1} → statement M
 walk-spec =
     tie.close
     (tie.spec (λ c. search needs) (λ c. search needs) (λ c. search needs) (λ c. search needs) (λ c κs. search needs) (λ c. search needs)
-    (λ c κs. search needs) (λ c κs. search needs) same-length same-length-2 same-length-3 returns)
+    (λ c κs. search needs) (λ c κs. search needs) same-length same-length-2 (λ c. c .before .out .given) returns)

@@ -30,9 +30,6 @@ loop-again c =
     filling-more (length (now (s .args .row))) (l .x) (λ x. cond (ltb x (length (now (s .args .row)))) (pixelText (getD (now (s .args .row)) x 0)) newline) (now (s .args .text)) (l .text) _ (omega arith) h (l .inv)
     (c .character .ensures ∙ sym (ap (λ b. cond b (pixelText (getD (now (s .args .row)) (l .x) 0)) newline) (lt-ltb (l .x) (length (now (s .args .row))) h)))
 
-same-length : tie.Need-same-length Inv-loop μ-loop
-same-length c = simp length-set (omega arith)
-
 returns : tie.Need-returns Inv-loop μ-loop
 returns c =
     let l = c .before .loop in
@@ -47,4 +44,4 @@ pub put-row-spec : {M : Type 1} → statement M
 put-row-spec =
     tie.close
     (tie.spec Inv-loop μ-loop loop-holds (λ c. search needs) (λ c κs. search needs) (λ c. search needs) (λ c. search needs) (λ c. search needs)
-    loop-again (λ c. search needs) same-length returns)
+    loop-again (λ c. search needs) (λ c. simp length-set (omega arith)) returns)

@@ -19,9 +19,6 @@ Inv-loop map text₀ width height line y₀ text y = (y ≤ height) × Filling (
 abbrev μ-loop : tie.MeasureT-loop
 μ-loop map text₀ width height line y₀ text y = height - y
 
-add-line : tie.Need-add-line Inv-loop μ-loop
-add-line c = omega (arith, c .before .before .pre .wide)
-
 loop-holds : tie.Need-loop-holds Inv-loop μ-loop
 loop-holds c = let a = c .before .before .args in (search needs, rw (zero-mul (a .size .width + 1)) (filling-start (a .size .height * (a .size .width + 1)) (shownAt (a .size) (now (a .map))) (now (a .text))))
 
@@ -54,9 +51,6 @@ loop-again : tie.Need-loop-again Inv-loop μ-loop
 loop-again c =
     let s = c .before .before .before .before .before .before .before .before .before in let t = row-in-rows (s .args .size) (now (s .args .map)) (now (s .args .text)) (c .before .before .before .before .before .before .loop .y) (s .pre) (c .before .before .before .before .before .loop-test .taken) in (search needs, rows-more (s .args .size) (now (s .args .map)) (now (s .args .text)) (c .before .before .before .before .before .before .loop .text) _ (c .before .before .before .before .before .before .loop .y) (s .pre) (c .before .before .before .before .before .loop-test .taken) (c .before .before .before .before .before .before .loop .inv .1) (c .before .before .put-row .ensures))
 
-same-length : tie.Need-same-length Inv-loop μ-loop
-same-length c = c .before .loop .inv .1 .same
-
 returns : tie.Need-returns Inv-loop μ-loop
 returns c =
     let l = c .before .loop in
@@ -69,5 +63,6 @@ returns c =
 pub put-rows-spec : {M : Type 1} → statement M
 put-rows-spec =
     tie.close
-    (tie.spec Inv-loop μ-loop add-line loop-holds mul-from add-to mul-at add-end (λ c. search needs) (λ c. search needs) part-put-row-end
-    (λ c. search needs) (λ c. search needs) part-put-row-end-2 put-row-requires (λ c. search needs) (λ c. search needs) loop-again same-length returns)
+    (tie.spec Inv-loop μ-loop (λ c. omega (arith, c .before .before .pre .wide)) loop-holds mul-from add-to mul-at add-end (λ c. search needs)
+    (λ c. search needs) part-put-row-end (λ c. search needs) (λ c. search needs) part-put-row-end-2 put-row-requires (λ c. search needs)
+    (λ c. search needs) loop-again (λ c. c .before .loop .inv .1 .same) returns)

@@ -12,15 +12,6 @@ use Rattle.hysteresis.proofs.takes.look_at.Tie as tie
 room : (c : tie.Then1) → c .before .before .args .pending < length (c .before .before .args .stack .now)
 room c = c .before .before .pre .2 (c .if1 .taken)
 
-mul-stack : tie.Need-mul-stack
-mul-stack c = let h = room c in search needs
-
-slice-write-stack : tie.Need-slice-write-stack
-slice-write-stack c = room c
-
-add-result : tie.Need-add-result
-add-result c = omega (arith, room c)
-
 returns : tie.Need-returns
 unfolding look
 returns c = simp (eq-eqb _ _ (c .if1 .taken))
@@ -32,5 +23,5 @@ returns-2 c = simp (ne-eqb _ _ (c .if1 .left))
 pub look-at-spec : {M : Type 1} → statement M
 look-at-spec =
     tie.close
-    (tie.spec (λ c. search needs) (λ c. search needs) (λ c. search needs) mul-stack slice-write-stack add-result (λ c. search needs)
-    (λ c. search needs) returns returns-2)
+    (tie.spec (λ c. search needs) (λ c. search needs) (λ c. search needs) (λ c. let h = room c in search needs) (λ c. room c)
+    (λ c. omega (arith, room c)) (λ c. search needs) (λ c. search needs) returns returns-2)

@@ -51,9 +51,6 @@ cast-q c = omega (arith, q-in (c .before .before .before), c .before .before .be
 slice-write-marks : tie.Need-slice-write-marks
 slice-write-marks c = omega (arith, q-in (c .before .before .before), c .before .before .before .pre .1 .marks-long)
 
-rem-x : tie.Need-rem-x
-rem-x c = wide _ _ _ (q-in (c .before .before .before .before))
-
 div-y : tie.Need-div-y
 div-y c = wide _ _ _ (q-in (c .before .before .before .before .before))
 
@@ -95,5 +92,6 @@ returns c =
 pub take-one-spec : {M : Type 1} → statement M
 take-one-spec =
     tie.close
-    (tie.spec (λ c. search needs) (λ c. search needs) (λ c. search needs) cast-q (λ c. search needs) (λ c. search needs) slice-write-marks rem-x div-y
-    visit-row-requires add-visit-row visit-row-requires-2 add-visit-row-2 visit-row-requires-3 same-length same-length-2 returns)
+    (tie.spec (λ c. search needs) (λ c. search needs) (λ c. search needs) cast-q (λ c. search needs) (λ c. search needs) slice-write-marks
+    (λ c. wide _ _ _ (q-in (c .before .before .before .before))) div-y visit-row-requires add-visit-row visit-row-requires-2 add-visit-row-2
+    visit-row-requires-3 same-length same-length-2 returns)

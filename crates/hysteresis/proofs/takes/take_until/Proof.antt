@@ -31,20 +31,8 @@ loop-again c =
       k .kept .1 .0 ∙ a .loop .inv .2,
     )
 
-same-length : tie.Need-same-length Inv-loop μ-loop
-same-length c = c .before .loop .inv .1
-
-same-length-2 : tie.Need-same-length-2 Inv-loop μ-loop
-same-length-2 c = c .before .loop .inv .2
-
 returns : tie.Need-returns Inv-loop μ-loop
 returns c = going-spent _ _ _ _ _ (c .before .loop .inv .0) (c .loop-test .left)
-
-same-length-3 : tie.Need-same-length-3 Inv-loop μ-loop
-same-length-3 c = c .before .before .loop .inv .1
-
-same-length-4 : tie.Need-same-length-4 Inv-loop μ-loop
-same-length-4 c = c .before .before .loop .inv .2
 
 returns-2 : tie.Need-returns-2 Inv-loop μ-loop
 returns-2 c = going-ended _ _ _ _ _ (c .before .before .loop .inv .0) (c .if1 .taken)
@@ -52,5 +40,5 @@ returns-2 c = going-ended _ _ _ _ _ (c .before .before .loop .inv .0) (c .if1 .t
 pub take-until-spec : {M : Type 1} → statement M
 take-until-spec =
     tie.close
-    (tie.spec Inv-loop μ-loop loop-holds take-one-requires (λ c. search needs) (λ c. search needs) loop-again same-length same-length-2 returns
-    same-length-3 same-length-4 returns-2)
+    (tie.spec Inv-loop μ-loop loop-holds take-one-requires (λ c. search needs) (λ c. search needs) loop-again (λ c. c .before .loop .inv .1)
+    (λ c. c .before .loop .inv .2) returns (λ c. c .before .before .loop .inv .1) (λ c. c .before .before .loop .inv .2) returns-2)

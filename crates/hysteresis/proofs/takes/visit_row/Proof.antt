@@ -15,12 +15,6 @@ fit-1 c = subst (Fit _) (sym (c .visit-at .ensures)) (fit-visit _ _ _ _ (c .befo
 fit-2 : (c : tie.After-visit-at2) → Fit (c .before .before .before .before .before .before .before .before .before .before .before .before .args .size) (state (c .visit-at2 .last .0) (c .visit-at2 .last .1 .0) (c .visit-at2 .result))
 fit-2 c = subst (Fit _) (sym (c .visit-at2 .ensures)) (fit-visit _ _ _ _ (fit-1 (c .before .before .before .before .before .before .before)))
 
-visit-at-requires-2 : tie.Need-visit-at-requires-2
-visit-at-requires-2 c κs = fit-1 (c .before .before .before .before .before .before)
-
-visit-at-requires-3 : tie.Need-visit-at-requires-3
-visit-at-requires-3 c κs = fit-2 (c .before .before .before .before .before .before)
-
 returns : tie.Need-returns
 unfolding row
 returns c =
@@ -31,5 +25,5 @@ returns c =
 pub visit-row-spec : {M : Type 1} → statement M
 visit-row-spec =
     tie.close
-    (tie.spec (λ c κs. search needs) (λ c. search needs) visit-at-requires-2 (λ c. search needs) visit-at-requires-3 (λ c. search needs)
-    (λ c. search needs) returns)
+    (tie.spec (λ c κs. search needs) (λ c. search needs) (λ c κs. fit-1 (c .before .before .before .before .before .before)) (λ c. search needs)
+    (λ c κs. fit-2 (c .before .before .before .before .before .before)) (λ c. search needs) (λ c. search needs) returns)

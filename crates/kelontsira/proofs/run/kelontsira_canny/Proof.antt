@@ -25,14 +25,8 @@ same-length-5 c = c .before .before .before .before .before .before .before .bef
 same-length-6 : tie.Need-same-length-6
 same-length-6 c = c .before .before .before .before .before .before .before .marks .given
 
-same-length-7 : tie.Need-same-length-7
-same-length-7 c = c .before .before .before .before .before .stack .given
-
-same-length-8 : tie.Need-same-length-8
-same-length-8 c = c .before .before .before .map .given
-
 pub kelontsira-canny-spec : {M : Type 1} → statement M
 kelontsira-canny-spec =
     tie.close
     (tie.spec (λ c κs. search needs) (λ c κs. search needs) same-length same-length-2 same-length-3 same-length-4 same-length-5 same-length-6
-    same-length-7 same-length-8 returns)
+    (λ c. c .before .before .before .before .before .stack .given) (λ c. c .before .before .before .map .given) returns)

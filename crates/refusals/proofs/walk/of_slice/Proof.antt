@@ -22,9 +22,6 @@ small c = side-off _ (side c) .small
 returns : tie.Need-returns
 returns c = simp (sym (c .before .side-over .ensures) ∙ c .if1 .taken)
 
-mul-n : tie.Need-mul-n
-mul-n c = omega (arith, small (c .before))
-
 returns-2 : tie.Need-returns-2
 returns-2 c = simp (side (c .before .before), lt-ltb _ _ (c .if2 .taken))
 
@@ -48,4 +45,5 @@ returns-6 c =
 pub of-slice-spec : {M : Type 1} → statement M
 of-slice-spec =
     tie.close
-    (tie.spec (λ c κs. search needs) returns mul-n returns-2 returns-3 returns-4 unusable-state-requires returns-5 returns-6)
+    (tie.spec (λ c κs. search needs) returns (λ c. omega (arith, small (c .before))) returns-2 returns-3 returns-4 unusable-state-requires returns-5
+    returns-6)

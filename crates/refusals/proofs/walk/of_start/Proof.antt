@@ -25,9 +25,6 @@ fine c = rw (c .before .before .bad-threshold .ensures, c .before .bad-threshold
 returns : tie.Need-returns
 returns c = simp (sym (c .before .side-over .ensures) ∙ c .if1 .taken)
 
-mul-n : tie.Need-mul-n
-mul-n c = omega (arith, small (c .before))
-
 returns-2 : tie.Need-returns-2
 returns-2 c = simp (side (c .before .before), ne-eqb _ _ (c .if2 .taken))
 
@@ -52,5 +49,5 @@ returns-7 c =
 pub of-start-spec : {M : Type 1} → statement M
 of-start-spec =
     tie.close
-    (tie.spec (λ c κs. search needs) returns mul-n returns-2 (λ c κs. search needs) (λ c κs. search needs) returns-3 returns-4 returns-5 returns-6
-    returns-7)
+    (tie.spec (λ c κs. search needs) returns (λ c. omega (arith, small (c .before))) returns-2 (λ c κs. search needs) (λ c κs. search needs) returns-3
+    returns-4 returns-5 returns-6 returns-7)

@@ -5,10 +5,5 @@ use borrow.Author.Needs.{needs}
 use Rattle.suppression_run.proofs.magnitudes.squared.Statement.{statement}
 use Rattle.suppression_run.proofs.magnitudes.squared.Tie as tie
 
-mul-result : tie.Need-mul-result
-mul-result c = omega (arith, mul-le-mul (c .pre) (c .pre))
-
 pub squared-spec : {M : Type 1} → statement M
-squared-spec =
-    tie.close
-    (tie.spec mul-result (λ c. search needs))
+squared-spec = tie.close (tie.spec (λ c. omega (arith, mul-le-mul (c .pre) (c .pre))) (λ c. search needs))

@@ -4,11 +4,8 @@ use native.Mathlib.Omega.{arith}
 use Rattle.vectors_run.proofs.filters.resolved.Statement.{statement}
 use Rattle.vectors_run.proofs.filters.resolved.Tie as tie
 
-cast-result : tie.Need-cast-result
-cast-result c = omega (arith, c .shared-slice-known5 .given 0)
-
 pub resolved-spec : {M : Type 1} → statement M
 resolved-spec =
     tie.close
-    (tie.spec (λ c. search needs) (λ c. search needs) (λ c. search needs) (λ c. search needs) (λ c κs. search needs)
-    (λ c. search needs) (λ c κs. search needs) (λ c. search needs) cast-result (λ c. search needs))
+    (tie.spec (λ c. search needs) (λ c. search needs) (λ c. search needs) (λ c. search needs) (λ c κs. search needs) (λ c. search needs)
+    (λ c κs. search needs) (λ c. search needs) (λ c. omega (arith, c .shared-slice-known5 .given 0)) (λ c. search needs))
