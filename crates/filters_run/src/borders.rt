@@ -1,21 +1,21 @@
 // Resolving a coordinate: the mirror, both ends of an i64, and the refused sides.
-use crate::case::border_of;
+use crate::case;
 use cases::count;
 use cases::wide;
 use filters::convolution::resolve_coord;
 use rules::Coord;
 
-// The case: 1 and a small coordinate, or 2 for -2^63, or 3 for 2^63 - 1; then the border, the coordinate, the side and what is wanted.
+// The case: the border, the coordinate, the side, what is wanted, and 1 or 2 if the coordinate is -2^63 or 2^63 - 1.
 pub(crate) fn run(v: &[u32; 80]) {
-    let coord = coordinate(v[0], v[2]);
-    let got = resolve_coord(coord, count(v[3]), border_of(v[1]));
+    let coord = coordinate(v[5], v[2]);
+    let got = resolve_coord(coord, count(v[3]), case::border(v));
     report::number(b"", told(got), wide(v[4]));
 }
 
-fn coordinate(kind: u32, small: u32) -> i64 {
-    match kind {
-        1 => signed(small),
-        2 => -9223372036854775807i64 - 1,
+fn coordinate(end: u32, small: u32) -> i64 {
+    match end {
+        0 => signed(small),
+        1 => -9223372036854775807i64 - 1,
         _ => 9223372036854775807i64,
     }
 }

@@ -4,12 +4,18 @@ use cases::count;
 use cases::float;
 use cases::wide;
 use rules::BorderMode;
+use rules::Kernel;
+use rules::SeparableKernel;
 use rules::Size;
 ghost use Prim.Native.Nat.{_≤_};
 ghost use lib.ListN.{length};
 ghost use mathlib.Core.Path.{_≡_};
 
-// Place 1: the border.
+// Place 1: the border. A function reads its numbers here, where nothing but the line is lent: that is what makes its check short.
+pub(crate) fn border(v: &[u32; 80]) -> BorderMode {
+    border_of(v[1])
+}
+
 pub(crate) fn border_of(n: u32) -> BorderMode {
     match n {
         0 => BorderMode::Zero,
@@ -64,11 +70,21 @@ pub(crate) fn bytes_at(v: &[u32], from: usize) -> [u8; 10]
     [0; 10]
 }
 
-// Places 7 and 8: how many weights, or taps across and down, the call is told. Places 9 to 12: how many weights or taps across there are,
-// the first and all from the fourth on, the second and the third.
-pub(crate) const TOLD_ACROSS: usize = 7;
+// Places 7 and 8: the sides of the kernel, or how many taps across and down, that the call is told. Places 9 to 12: how many weights or
+// taps across there are, the first and all from the fourth on, the second and the third.
+pub(crate) fn kernel(v: &[u32; 80]) -> Kernel {
+    Kernel {
+        width: count(v[7]),
+        height: count(v[8]),
+    }
+}
 
-pub(crate) const TOLD_DOWN: usize = 8;
+pub(crate) fn separable_kernel(v: &[u32; 80]) -> SeparableKernel {
+    SeparableKernel {
+        horizontal: count(v[7]),
+        vertical: count(v[8]),
+    }
+}
 
 pub(crate) fn weight_count(v: &[u32; 80]) -> usize
     ensures { λ r. ⌜ r ≤ 255 ⌝ }
@@ -92,7 +108,11 @@ pub(crate) fn down_count(v: &[u32; 80]) -> usize
     at_most(v[13], 3)
 }
 
-pub(crate) const DOWN: usize = 14;
+pub(crate) fn down(v: &[u32; 80]) -> [f32; 3]
+    ensures { λ r. ⌜ 3 ≡ length r ⌝ }
+{
+    [float(v[14]); 3]
+}
 
 // Places 15 to 17: how many entries of the work buffer are lent, what they all are before the call, and how many are zero after it.
 pub(crate) fn work_room(v: &[u32; 80]) -> usize
@@ -101,7 +121,9 @@ pub(crate) fn work_room(v: &[u32; 80]) -> usize
     at_most(v[15], 10)
 }
 
-pub(crate) const WORK: usize = 16;
+pub(crate) fn work_before(v: &[u32; 80]) -> f32 {
+    float(v[16])
+}
 
 pub(crate) fn cleared(v: &[u32; 80]) -> usize
     ensures { λ r. ⌜ r ≤ 10 ⌝ }
@@ -109,23 +131,30 @@ pub(crate) fn cleared(v: &[u32; 80]) -> usize
     at_most(v[17], 10)
 }
 
-// The lines of a call's number and of its output. Of a case whose first number is 6 the output alone is told, under the line's own name.
-// An array comes as it is: of one that was lent in part a slice would need a proof of its length.
+// Place 18: which call it is: of the kernels 0 a kernel, 1 sharpening; of the blurs 0 a separable kernel, 1 the blur, 2 the box.
+pub(crate) const WHICH: usize = 18;
+
+// The lines of a call's number and of its output. An array comes as it is: of one that was lent in part a slice would need a proof of its
+// length.
 pub(crate) fn answered(v: &[u32; 80], got: u8, out: &[u8; 10]) {
+    say_number(v, got);
     let wanted = bytes_at(v, WANTED);
-    if v[0] == 6 {
-        lent(b"", out, &wanted, room(v));
-        return;
+    lent(out, &wanted, room(v));
+}
+
+// The number, and the beginning of the next line. Place 19: whether the output alone is told, under the line's own name.
+fn say_number(v: &[u32; 80], got: u8) {
+    if v[19] == 0 {
+        report::number(b"", got as u64, wide(v[REFUSAL]));
+        report::words(b"  its bytes");
     }
-    report::number(b"", got as u64, wide(v[REFUSAL]));
-    lent(b"  its bytes", out, &wanted, room(v));
 }
 
 // The first n entries, which were lent.
-fn lent(name: &[u8], out: &[u8], wanted: &[u8], n: usize) {
+fn lent(out: &[u8], wanted: &[u8], n: usize) {
     if n <= out.len() {
         if n <= wanted.len() {
-            report::bytes(name, &out[0..n], &wanted[0..n]);
+            report::bytes(b"", &out[0..n], &wanted[0..n]);
         }
     }
 }

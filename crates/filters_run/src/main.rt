@@ -25,15 +25,28 @@ fn lines_of(text: &[u8]) {
     }
 }
 
-// A line's first number says what its case is of.
+// A line's first number says what its case is of: 1 a coordinate, else a call.
 fn line(text: &[u8], at: &mut usize) {
     let v = cases::case(text, at);
     let kind = v[0];
     match kind {
-        1..=3 => borders::run(&v),
-        4..=6 => kernels::run(&v),
-        7 => kernels::widest(&v),
-        8..=10 => blurs::run(&v),
-        _ => {}
+        0 => {}
+        1 => borders::run(&v),
+        _ => call(&v),
+    }
+}
+
+fn call(v: &[u32; 80]) {
+    let all_pixels = case::bytes_at(v, case::PIXELS);
+    let n = case::pixel_count(v);
+    let all_weights = case::weights(v);
+    let m = case::weight_count(v);
+    let pixels = &all_pixels[0..n];
+    let weights = &all_weights[0..m];
+    let kind = v[0];
+    match kind {
+        2 => kernels::run(v, pixels, weights),
+        3 => kernels::widest(v, weights),
+        _ => blurs::run(v, pixels, weights),
     }
 }
