@@ -27,6 +27,8 @@ pub(crate) const BY_DEFAULT: u32 = 4;
 
 pub(crate) const CONSTANT: u32 = 5;
 
+pub(crate) const BY_DEFAULT_SIZE: u32 = 6;
+
 // Places 2 and 3.
 pub(crate) fn size(v: &[u32; 80]) -> Size {
     Size {

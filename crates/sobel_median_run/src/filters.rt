@@ -55,7 +55,7 @@ fn median_filter(made: u32, window: u32) -> MedianFilter {
         case::BY_NEW => MedianFilter::new(count(window)),
         case::BY_DEFAULT => MedianFilter::default(),
         case::CONSTANT => MedianFilter::DEFAULT,
-        6 => MedianFilter::new(MedianFilter::DEFAULT_SIZE),
+        case::BY_DEFAULT_SIZE => MedianFilter::new(MedianFilter::DEFAULT_SIZE),
         _ => MedianFilter::with_border(count(window), case::border_of(made)),
     }
 }
