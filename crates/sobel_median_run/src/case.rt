@@ -7,7 +7,11 @@ ghost use Prim.Native.Nat.{_≤_};
 ghost use lib.ListN.{length};
 ghost use mathlib.Core.Path.{_≡_};
 
-// Place 1: the border.
+// Place 1: the border. A number is read here, where nothing but the line is lent: that is what makes a check short.
+pub(crate) fn border(v: &[u32; 80]) -> BorderMode {
+    border_of(v[1])
+}
+
 pub(crate) fn border_of(n: u32) -> BorderMode {
     match n {
         0 => BorderMode::Zero,
@@ -23,6 +27,8 @@ pub(crate) const BY_DEFAULT: u32 = 4;
 
 pub(crate) const CONSTANT: u32 = 5;
 
+pub(crate) const BY_DEFAULT_SIZE: u32 = 6;
+
 // Places 2 and 3.
 pub(crate) fn size(v: &[u32; 80]) -> Size {
     Size {
@@ -32,7 +38,7 @@ pub(crate) fn size(v: &[u32; 80]) -> Size {
 }
 
 // Place 4: how many pixels of those that stand from 10 on. Place 5: the number that is wanted. Places 6 and 7: how many entries of an
-// output are lent, all of them 7 before the call; what they are after it stands from 20 on, of gy from 30 on. Place 8: the median's window.
+// output are lent, all of them 7 before the call; what they are after it stands from 20 on, of gy from 30 on.
 pub(crate) fn pixel_count(v: &[u32; 80]) -> usize
     ensures { λ r. ⌜ r ≤ 10 ⌝ }
 {
@@ -41,11 +47,22 @@ pub(crate) fn pixel_count(v: &[u32; 80]) -> usize
 
 pub(crate) const REFUSAL: usize = 5;
 
-pub(crate) const ROOM: usize = 6;
+pub(crate) fn room(v: &[u32; 80]) -> usize
+    ensures { λ r. ⌜ r ≤ 10 ⌝ }
+{
+    at_most(v[6], 10)
+}
 
-pub(crate) const ROOM_OF_GY: usize = 7;
+pub(crate) fn room_of_gy(v: &[u32; 80]) -> usize
+    ensures { λ r. ⌜ r ≤ 10 ⌝ }
+{
+    at_most(v[7], 10)
+}
 
+// Place 8: the median's window. Place 9: whether it is the median, and not Sobel's filter.
 pub(crate) const WINDOW: usize = 8;
+
+pub(crate) const IS_MEDIAN: usize = 9;
 
 pub(crate) const PIXELS: usize = 10;
 

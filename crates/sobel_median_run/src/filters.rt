@@ -1,7 +1,6 @@
 // Sobel's filter and the median: small pictures under each border, however the filter is made, the largest sides, and each refusal with the
 // output compared.
 use crate::case;
-use cases::at_most;
 use cases::count;
 use cases::wide;
 use median::MedianFilter;
@@ -12,16 +11,17 @@ ghost use mathlib.Core.Path.{_≡_};
 pub(crate) fn run(v: &[u32; 80]) {
     let pixels = case::bytes_at(v, case::PIXELS);
     let n = case::pixel_count(v);
-    let m = at_most(v[case::ROOM], 10);
+    let m = case::room(v);
     let mut out = [7u8; 10];
     let got = called(v, &pixels[0..n], &mut out[0..m]);
-    report::number(b"", got as u64, wide(v[case::REFUSAL]));
-    left(v, &out, m);
+    left(v, got, &out);
 }
 
 // An array comes as it is: of one that was lent in part a slice would need a proof of its length.
-fn left(v: &[u32; 80], out: &[u8; 10], n: usize) {
-    lent(out, &case::bytes_at(v, case::WANTED), n);
+fn left(v: &[u32; 80], got: u8, out: &[u8; 10]) {
+    report::number(b"", got as u64, wide(v[case::REFUSAL]));
+    let wanted = case::bytes_at(v, case::WANTED);
+    lent(out, &wanted, case::room(v));
 }
 
 // The first n entries, which were lent.
@@ -33,12 +33,12 @@ fn lent(out: &[u8], wanted: &[u8], n: usize) {
     }
 }
 
-// A case is Sobel's up to 5.
 fn called(v: &[u32; 80], pixels: &[u8], out: &mut [u8]) -> u8 {
-    if v[0] <= 5 {
-        return sobel_filter(v[1]).apply(pixels, case::size(v), out);
+    let size = case::size(v);
+    if v[case::IS_MEDIAN] == 0 {
+        return sobel_filter(v[1]).apply(pixels, size, out);
     }
-    median_filter(v[1], count(v[case::WINDOW])).apply(pixels, case::size(v), out)
+    median_filter(v[1], v[case::WINDOW]).apply(pixels, size, out)
 }
 
 fn sobel_filter(made: u32) -> SobelFilter {
@@ -50,23 +50,22 @@ fn sobel_filter(made: u32) -> SobelFilter {
     }
 }
 
-// A window that is left out is the one that a default has.
-fn median_filter(made: u32, window: usize) -> MedianFilter {
+fn median_filter(made: u32, window: u32) -> MedianFilter {
     match made {
-        case::BY_NEW => MedianFilter::new(window),
+        case::BY_NEW => MedianFilter::new(count(window)),
         case::BY_DEFAULT => MedianFilter::default(),
         case::CONSTANT => MedianFilter::DEFAULT,
-        6 => MedianFilter::new(MedianFilter::DEFAULT_SIZE),
-        _ => MedianFilter::with_border(window, case::border_of(made)),
+        case::BY_DEFAULT_SIZE => MedianFilter::new(MedianFilter::DEFAULT_SIZE),
+        _ => MedianFilter::with_border(count(window), case::border_of(made)),
     }
 }
 
-// The largest sides, of one grey, with an entry past the picture. The case has at place 9 what all the pixels are then.
+// The largest sides, of one grey, with an entry past the picture. All the pixels are then what stands at 20.
 pub(crate) fn widest(v: &[u32; 80]) {
     let mut out = [7u8; 641];
     let got = called(v, &[9; 640], &mut out);
     report::number(b"", got as u64, 0);
-    all_640(&out, (v[9] % 256) as u8);
+    all_640(&out, (v[case::WANTED] % 256) as u8);
 }
 
 fn all_640(out: &[u8], wanted: u8) {

@@ -1,7 +1,6 @@
 // Both components of a picture: small ones under each border and the extremes, the largest sides, and each refusal with both buffers
 // compared.
 use crate::case;
-use cases::at_most;
 use cases::wide;
 use rules::BorderMode;
 use sobel::sobel_gradients;
@@ -13,27 +12,35 @@ pub(crate) fn run(v: &[u32; 80]) {
 }
 
 fn lend(v: &[u32; 80], pixels: &[u8]) {
-    let n = at_most(v[case::ROOM], 10);
-    let m = at_most(v[case::ROOM_OF_GY], 10);
+    let n = case::room(v);
+    let m = case::room_of_gy(v);
+    let size = case::size(v);
+    let border = case::border(v);
     let mut gx = [7i16; 10];
     let mut gy = [7i16; 10];
-    let border = case::border_of(v[1]);
-    let got = sobel_gradients(pixels, case::size(v), border, &mut gx[0..n], &mut gy[0..m]);
-    report::number(b"", got as u64, wide(v[case::REFUSAL]));
-    left(v, &gx, &gy, n, m);
+    let got = sobel_gradients(pixels, size, border, &mut gx[0..n], &mut gy[0..m]);
+    left(v, got, &gx, &gy);
 }
 
 // Arrays come as they are: of one that was lent in part a slice would need a proof of its length.
-fn left(v: &[u32; 80], gx: &[i16; 10], gy: &[i16; 10], n: usize, m: usize) {
-    lent(b"  gx", gx, &case::numbers_at(v, case::WANTED), n);
-    lent(b"  gy", gy, &case::numbers_at(v, case::WANTED_GY), m);
+fn left(v: &[u32; 80], got: u8, gx: &[i16; 10], gy: &[i16; 10]) {
+    report::number(b"", got as u64, wide(v[case::REFUSAL]));
+    report::words(b"  gx");
+    component(v, gx, case::room(v), case::WANTED);
+    report::words(b"  gy");
+    component(v, gy, case::room_of_gy(v), case::WANTED_GY);
+}
+
+fn component(v: &[u32], got: &[i16], n: usize, from: usize) {
+    let wanted = case::numbers_at(v, from);
+    lent(got, &wanted, n);
 }
 
 // The first n entries, which were lent.
-fn lent(name: &[u8], got: &[i16], wanted: &[i16], n: usize) {
+fn lent(got: &[i16], wanted: &[i16], n: usize) {
     if n <= got.len() {
         if n <= wanted.len() {
-            report::numbers(name, &got[0..n], &wanted[0..n]);
+            report::numbers(b"", &got[0..n], &wanted[0..n]);
         }
     }
 }

@@ -35,9 +35,7 @@ fn line(text: &[u8], at: &mut usize) {
         3 => byte(v[1], v[2]),
         4 => filters::run(&v),
         5 => filters::widest(&v),
-        6 => filters::run(&v),
-        7 => filters::widest(&v),
-        8 => filters::mixed(&v),
+        6 => filters::mixed(&v),
         9 => report::heading(b""),
         _ => {}
     }
