@@ -8,7 +8,7 @@ use mathlib.Core.List.{List}
 use lib.Dec.{T}
 use lib.ListN.{getD}
 use lib.Ieee.{Float}
-use lib.IntN.{ℤ, pos, natAbs, _-ℤ_}
+use lib.IntN.{ℤ, pos, natAbs, _-ℤ_, _*ℤ_}
 use lib.Signed.{ltZ, nonNeg, natAbs-le}
 use mir.Syntax.{w16, w32}
 use mir.Val.{Fits, SFits, toZ, ofZ}
@@ -17,7 +17,8 @@ use Rattle.rules.specs.Gradient.{energy}
 use Rattle.rules.specs.Root.{magnitudeOf}
 use Rattle.rules.specs.Calls.{magnitudeAt}
 use Rattle.rules.proofs.Signed.{natural, negative}
-use Rattle.magnitude.specs.Lent.{SizeOf}
+use Rattle.rules.proofs.Sizes.{square}
+use Rattle.magnitude.specs.Lent.{SizeOf, SquareOf}
 
 -- ---- the size of g, through an i32
 
@@ -56,12 +57,31 @@ module _ (g : ℤ) (f : SFits w16 g) where
     pub size-is : SizeOf g (natAbs x)
     size-is = rw e (record { is = refl; most = small })
 
+  -- the square
+  square-small : natAbs g * natAbs g ≤ 2 ^ 30
+  square-small = mul-le-mul small small
+
+  held-square : held *ℤ held ≡ pos (natAbs g * natAbs g)
+  held-square = rw read (square g)
+
+  pub square-fits : SFits w32 (held *ℤ held)
+  square-fits = rw held-square (record { sfits = omega (arith, square-small) })
+
+  square-read : toZ w32 (ofZ w32 (held *ℤ held)) ≡ pos (natAbs g * natAbs g)
+  square-read = toZ-ofZ w32 _ square-fits ∙ held-square
+
+  pub square-cast : T (nonNeg (toZ w32 (ofZ w32 (held *ℤ held)))) × Fits w32 (natAbs (toZ w32 (ofZ w32 (held *ℤ held))))
+  square-cast = rw square-read (tt, record { fits = omega (arith, square-small) })
+
+  pub square-is : SquareOf g (natAbs (toZ w32 (ofZ w32 (held *ℤ held))))
+  square-is = rw square-read (record { is = refl; most = square-small })
+
 -- ---- the products of two sizes fit
 
 pub product-small : (a b : ℕ) → a ≤ 2 ^ 15 → b ≤ 2 ^ 15 → a * b ≤ 2 ^ 30
 product-small a b h k = mul-le-mul h k
 
-pub energy-is : (gx gy : ℤ) (a b : ℕ) → a ≡ natAbs gx → b ≡ natAbs gy → a * a + b * b ≡ energy gx gy
+pub energy-is : (gx gy : ℤ) (a b : ℕ) → a ≡ natAbs gx * natAbs gx → b ≡ natAbs gy * natAbs gy → a + b ≡ energy gx gy
 energy-is gx gy a b p q = rw (p, q)
 
 -- the magnitude at i

@@ -1,5 +1,5 @@
 -- What the private functions are lent and give back: the sizes that keep every product inside, and what bits stand for.
-use Prim.Native.Nat.{ℕ, _-_, _^_, _<_, _≤_}
+use Prim.Native.Nat.{ℕ, _-_, _*_, _^_, _<_, _≤_}
 use mathlib.Core.Path.{_≡_}
 use mathlib.Core.List.{List}
 use lib.ListN.{getD}
@@ -11,6 +11,11 @@ use Rattle.rules.specs.Root.{magnitudeOf}
 pub record SizeOf (g : ℤ) (r : ℕ) : Type 0 where
   pub is : r ≡ natAbs g
   pub most : r ≤ 2 ^ 15
+
+-- and its square
+pub record SquareOf (g : ℤ) (r : ℕ) : Type 0 where
+  pub is : r ≡ natAbs g * natAbs g
+  pub most : r ≤ 2 ^ 30
 
 -- the bits of a magnitude: 1, which stands for what has none, is never told of
 pub record BitsOf (s b : ℕ) : Type 0 where

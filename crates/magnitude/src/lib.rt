@@ -11,11 +11,11 @@ ghost use Rattle.rules.specs.Picture.{filled};
 ghost use Rattle.rules.specs.Gradient.{energy};
 ghost use Rattle.rules.specs.Root.{capS, Near, nearRoot, rootOf, magnitudeOf};
 ghost use Rattle.rules.specs.Calls.{magnitudeAt, gradientMagnitude};
-ghost use Rattle.magnitude.specs.Lent.{SizeOf, BitsOf, Target, AllBelow};
+ghost use Rattle.magnitude.specs.Lent.{SizeOf, SquareOf, BitsOf, Target, AllBelow};
 
 // ---- components
 
-// The size of a component: the one place where its sign is taken off. -32,768 has one too. The sector needs it as well.
+// The size of a component, which the sector is told by: the one place where its sign is taken off. -32,768 has one too.
 pub fn size_of(g: i16) -> u32
     ensures { λ r. ⌜ SizeOf g r ⌝ }
 {
@@ -23,13 +23,19 @@ pub fn size_of(g: i16) -> u32
     if z < 0 { (0 - z) as u32 } else { z as u32 }
 }
 
+// The square of a component. At 32 bits from 16, so that a loop over pixels multiplies many at once.
+fn square_of(g: i16) -> u32
+    ensures { λ r. ⌜ SquareOf g r ⌝ }
+{
+    let z = g as i32;
+    (z * z) as u32
+}
+
 // S, at most 2^31 on any two components.
 fn energy(gx: i16, gy: i16) -> u32
     ensures { λ r. ⌜ r ≡ energy gx gy ⌝ }
 {
-    let a = size_of(gx);
-    let b = size_of(gy);
-    a * a + b * b
+    square_of(gx) + square_of(gy)
 }
 
 // ---- the root: guessed in floats, then tested or mended in whole numbers. Nothing is proved, or needed, of the guess.
