@@ -2,14 +2,14 @@
 use mathlib.Core.Path.{_≡_, refl, sym, ap, _∙_}
 use mathlib.Core.Bool.{Bool, true, false, cond}
 use mathlib.Core.List.{List}
-use Prim.Native.Nat.{ℕ, _+_, _*_, _<_, _≤_, _^_}
+use Prim.Native.Nat.{ℕ, _+_, _*_, _<_, _≤_}
 use native.Mathlib.Omega.{arith}
 use borrow.Author.Tests.{lt-ltb, le-ltb, ne-eqb}
 use lib.Dec.{ltb, eqb}
 use lib.ListN.{getD}
 use lib.IntN.{ℤ, pos, _-ℤ_}
-use mir.Syntax.{w64}
-use mir.Val.{toZ, ofZ}
+use mir.Syntax.{w32, w64}
+use mir.Val.{Fits, toZ, ofZ}
 use Rattle.rules.specs.Limits.{maxSide}
 use Rattle.rules.specs.Border.{resolved, coordSays, entryAt, sampleAt, byteSample}
 use Rattle.rules.specs.Refusals.{first}
@@ -23,14 +23,14 @@ use Rattle.rules.proofs.Sampling.{placeIn}
 use Rattle.rules.proofs.Signed.{diff-back}
 use Rattle.rules.proofs.Rows.{input-fits}
 use Rattle.border.specs.Reading.{orSide, placed, readAt, readIn}
-use Rattle.refusals.specs.Rows.{pictureRows}
-use Rattle.refusals.specs.Rows.{Picture}
+use Rattle.refusals.specs.Rows.{Picture, pictureRows}
 
 -- the place of a case v of what `resolve_coord` gave, whose signed argument goes by its bits
-pub place-case : (mode : BorderMode) (a b side : ℕ) (r v : Coord) → a < 2 ^ 62 → b < 2 ^ 62
-    → coordSays r ≡ resolveCoord (toZ w64 (ofZ w64 (toZ w64 a -ℤ toZ w64 b))) side mode → r ≡ v → orSide side (coordSays v .1) ≡ placed mode (pos a -ℤ pos b) side
+pub place-case : (mode : BorderMode) (side : ℕ) {a b : ℕ} {r v : Coord} → Fits w32 a → Fits w32 b
+    → coordSays r ≡ resolveCoord (toZ w64 (ofZ w64 (toZ w64 a -ℤ toZ w64 b))) side mode → r ≡ v
+    → orSide side (coordSays v .1) ≡ placed mode (pos a -ℤ pos b) side
 unfolding placed
-place-case mode a b side r v h k e q = ap (λ (o : ℕ × _). orSide side (o .1)) (ap coordSays (sym q) ∙ (rw (diff-back a b h k) at e))
+place-case mode side {a} {b} f g e q = ap (λ (o : ℕ × _). orSide side (o .1)) (ap coordSays (sym q) ∙ (rw (diff-back a b (omega arith) (omega arith)) at e))
 
 -- of a side that is not refused
 pub placed-is : (mode : BorderMode) (c : ℤ) (side : ℕ) → 0 < side → side ≤ maxSide → placed mode c side ≡ placeIn side (resolved mode c side)
@@ -76,5 +76,5 @@ module _ (d : Size) (pixels : List ℕ) where
         → readIn pixels d (placed mode cx (d .width)) (placed mode cy (d .height)) ≡ byteSample pixels d mode cx cy
     unfolding sampleAt
     read-is mode cx cy w h =
-        rw (read-in (placed mode cx (d .width)) (placed mode cy (d .height)), placed-is mode cx (d .width) w (p .width-fits), placed-is mode cy (d .height) h (p .height-fits))
+        rw (read-in, placed-is mode cx (d .width) w (p .width-fits), placed-is mode cy (d .height) h (p .height-fits))
         (at-places (resolved mode cx (d .width)) (resolved mode cy (d .height)) (resolved-within mode cx (d .width) w) (resolved-within mode cy (d .height) h))

@@ -12,17 +12,16 @@ use Rattle.rules.specs.Border.{zeroOf, clampOf, emod, mirrorOf}
 use Rattle.rules.specs.declared.Coord.the-variants.{At, Nothing}
 use Rattle.rules.proofs.Signed.{negative}
 
-module _ (z : ℤ) (side : ℕ) (f : SFits w64 z) where
-  -- a negative coordinate
-  module _ (t : ltZ (toZ w64 (ofZ w64 z)) (pos 0) ≡ true) where
-    pub zero-below : Nothing ≡ zeroOf z side
-    zero-below = rw (negative z (rw (toZ-ofZ w64 z f) at t))
+-- a negative coordinate
+module _ {z : ℤ} (f : SFits w64 z) (t : ltZ (toZ w64 (ofZ w64 z)) (pos 0) ≡ true) (side : ℕ) where
+  pub zero-below : Nothing ≡ zeroOf z side
+  zero-below = rw (negative z (rw (toZ-ofZ w64 z f) at t))
 
-    pub clamp-below : 0 ≡ clampOf z side
-    clamp-below = rw (negative z (rw (toZ-ofZ w64 z f) at t))
+  pub clamp-below : 0 ≡ clampOf z side
+  clamp-below = rw (negative z (rw (toZ-ofZ w64 z f) at t))
 
 -- a natural one, n
-module _ (z : ℤ) (side n : ℕ) (e : z ≡ pos n) where
+module _ {z : ℤ} {side n : ℕ} (e : z ≡ pos n) where
   pub zero-in : n < side → At n ≡ zeroOf z side
   zero-in h = rw (e, lt-ltb n side h)
 
@@ -36,7 +35,7 @@ module _ (z : ℤ) (side n : ℕ) (e : z ≡ pos n) where
   clamp-out h = rw (e, le-ltb n side h)
 
 -- the remainder m by the period, below the side or folded
-module _ (z : ℤ) (side m : ℕ) (n : side ≡ 1 → ⊥) (e : m ≡ emod z (2 * (side - 1))) where
+module _ (z : ℤ) {side m : ℕ} (n : side ≡ 1 → ⊥) (e : m ≡ emod z (2 * (side - 1))) where
   pub mirror-in : m < side → m ≡ mirrorOf z side
   mirror-in h = rw (ne-eqb side 1 n, sym e, lt-ltb m side h)
 

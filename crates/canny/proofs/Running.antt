@@ -2,23 +2,21 @@
 use mathlib.Core.Path.{_≡_, refl, sym, ap, _∙_}
 use mathlib.Core.Bool.{Bool, true, false, cond}
 use mathlib.Core.List.{List}
-use Prim.Native.Nat.{ℕ, _-_, _*_, _<_, _≤_, min}
+use Prim.Native.Nat.{ℕ, _-_, _≤_, min}
 use native.Mathlib.Omega.{arith}
 use lib.Dec.{ltb, eqb}
 use lib.ListN.{length, getD, take, drop}
 use lib.IntN.{ℤ, pos}
 use lib.Ieee.{Float, nan}
 use borrow.Author.Tests.{ltb-true, ltb-false, lt-ltb, le-ltb, ne-eqb}
-use Rattle.rules.specs.Limits.{maxTaps}
 use Rattle.rules.specs.Picture.{area, tabulate, filled, cleared, tally}
 use Rattle.rules.specs.Sums.{plusZero}
-use Rattle.rules.specs.Refusals.{first, Scratch, sideRow, inputRow, countRow, weightRow, thresholdRow, orderRow, roomRow, runRows, startRows}
-use Rattle.rules.specs.Run.{suppressedOf, edgesOf, runEdges, countOf, clearedScratch, canny, Roomy}
+use Rattle.rules.specs.Refusals.{first, Scratch, runRows, startRows}
+use Rattle.rules.specs.Run.{suppressedOf, edgesOf, runEdges, countOf, canny, Roomy}
 use Rattle.rules.specs.declared.Size.{Size}
 use Rattle.rules.specs.declared.Thresholds.{Thresholds}
-use Rattle.rules.specs.declared.Counted.{Counted}
-use Rattle.rules.proofs.Fill.{length-tabulate, length-filled, filled-at, take-filled, drop-filled, tabulate-getD, tabulate-cong, getD-tabulate}
-use Rattle.rules.proofs.Rows.{off, none, side-off, input-off, room-off, input-fits, room-fits}
+use Rattle.rules.proofs.Fill.{length-tabulate, length-filled, filled-at, take-filled, drop-filled, tabulate-getD}
+use Rattle.rules.proofs.Rows.{off, input-off, room-off, rows}
 use Rattle.rules.proofs.Tallies.{tally-eq}
 use Rattle.scratch.specs.Cleared.{clearedTo}
 use Rattle.canny.specs.Lent.{scratch, roomRows, accepted, Run, Suppressed, Walkable, Walked}
@@ -37,69 +35,67 @@ short n a b = go (ltb a n) (ltb b n) refl refl
     go false true e f = let l = ltb-true b n f in rw (lt-ltb (min a b) n (omega arith))
     go false false e f = let l = ltb-false a n e in let m = ltb-false b n f in rw (le-ltb (min a b) n (omega arith))
 
--- one more in front
-longer : (n a b rest : ℕ) → lacks n b 0 ≡ rest → lacks n (min a b) 0 ≡ lacks n a rest
-longer n a b rest e = short n a b ∙ ap (lacks n a) e
+abbrev shortest : Scratch → List ℕ → ℕ
+shortest s out =
+    min (length (s .work)) (min (length (s .magnitude)) (min (length (s .gx)) (min (length (s .gy)) (min (length (s .blurred))
+    (min (length (s .marks)) (min (length (s .stack)) (length out)))))))
 
-pub room-number : (d : Size) (pixels : List ℕ) (taps : List Float) (t : Thresholds) (s : Scratch) (out : List ℕ)
-    → first (roomRows d pixels taps t (min (length (s .work)) (min (length (s .magnitude)) (min (length (s .gx)) (min (length (s .gy)) (min (length (s .blurred)) (min (length (s .marks)) (min (length (s .stack)) (length out)))))))))
-    ≡ first (runRows d pixels taps t s out)
-room-number d pixels taps t s out =
-    let n = area d in
-    ap
-    (λ (x : ℕ). cond (sideRow d .applies) 1 (cond (inputRow d pixels .applies) 2 (cond (countRow maxTaps (length taps) .applies) 3 (cond (weightRow taps .applies) 4 (cond (thresholdRow t .applies) 5 (cond (orderRow t .applies) 6 x))))))
-    (longer n (length (s .work)) _ _
-    (longer n (length (s .magnitude)) _ _
-    (longer n (length (s .gx)) _ _
-    (longer n (length (s .gy)) _ _ (longer n (length (s .blurred)) _ _ (longer n (length (s .marks)) _ _ (longer n (length (s .stack)) (length out) _ refl)))))))
+room-number : (d : Size) (pixels : List ℕ) (taps : List Float) (t : Thresholds) (s : Scratch) (out : List ℕ)
+    → first (roomRows d pixels taps t (shortest s out)) ≡ first (runRows d pixels taps t s out)
+room-number d pixels taps t s out = simp short
 
 -- ---- what the whole answers
 
-module _ (d : Size) (pixels : List ℕ) (taps : List Float) (t : Thresholds) (s : Scratch) (out : List ℕ) (room r : ℕ)
-    (shortest : room ≡ min (length (s .work)) (min (length (s .magnitude)) (min (length (s .gx)) (min (length (s .gy)) (min (length (s .blurred)) (min (length (s .marks)) (min (length (s .stack)) (length out))))))))
+module _ (d : Size) (pixels : List ℕ) (taps : List Float) (t : Thresholds) (s : Scratch) (out : List ℕ) {room r : ℕ} (least : room ≡ shortest s out)
     (answer : r ≡ first (roomRows d pixels taps t room)) where
   pub number : r ≡ first (runRows d pixels taps t s out)
-  number = answer ∙ ap (λ (n : ℕ). first (roomRows d pixels taps t n)) shortest ∙ room-number d pixels taps t s out
+  number = answer ∙ rw least (room-number d pixels taps t s out)
 
   pub refused : (r ≡ 0 → ⊥) → (record { refusal = r; count = 0 }, (out, s)) ≡ canny d pixels taps t s out
   unfolding canny
   refused n = rw (← number, ne-eqb r 0 n)
 
-  pub made : (c : ℕ) (left : List ℕ × Scratch) → r ≡ 0 → (c, left) ≡ accepted d pixels taps t s out → (record { refusal = 0; count = c }, left) ≡ canny d pixels taps t s out
+  pub made : {c : ℕ} {left : List ℕ × Scratch} → r ≡ 0 → (c, left) ≡ accepted d pixels taps t s out
+      → (record { refusal = 0; count = c }, left) ≡ canny d pixels taps t s out
   unfolding canny
-  made c left z e =
+  made z e =
       ap (λ (p : ℕ × (List ℕ × Scratch)). (record { refusal = 0; count = p .0 }, p .1)) e ∙ rw (← number, z)
+
+-- cleared after the stages is cleared from the start, where there is room
+clear-past : {A : Type 0} (n : ℕ) (z : A) (o l : List A) {r : List A} → drop n l ≡ drop n o → n ≤ length l → r ≡ clearedTo n z l → r ≡ cleared n z o
+clear-past n z o l p h q = let e : min n (length l) ≡ n = omega arith in (rw e at q) ∙ rw p
 
 -- ---- what acceptance grants
 
 module _ (d : Size) (pixels : List ℕ) (taps : List Float) (t : Thresholds) (s : Scratch) (out : List ℕ) (e : first (runRows d pixels taps t s out) ≡ 0) where
+  pub rooms : Roomy d s out
+  rooms =
+      let q = off (runRows d pixels taps t s out) tt e .1 .1 .1 .1 .1 .1 in
+      record {
+        work = room-off d (s .work) (q .0);
+        magnitude = room-off d (s .magnitude) (q .1 .0);
+        gx = room-off d (s .gx) (q .1 .1 .0);
+        gy = room-off d (s .gy) (q .1 .1 .1 .0);
+        blurred = room-off d (s .blurred) (q .1 .1 .1 .1 .0);
+        marks = room-off d (s .marks) (q .1 .1 .1 .1 .1 .0);
+        stack = room-off d (s .stack) (q .1 .1 .1 .1 .1 .1 .0);
+        room = room-off d out (q .1 .1 .1 .1 .1 .1 .1 .0);
+      }
+
   pub granted : Run d pixels taps (s .work) (s .magnitude) (s .gx) (s .gy) (s .blurred)
   granted =
       let p = off (runRows d pixels taps t s out) tt e in
-      let q = p .1 .1 .1 .1 .1 .1 in
       record {
         sides = p .0;
         long = input-off d pixels (p .1 .0);
         counted = p .1 .1 .0;
         weighed = p .1 .1 .1 .0;
-        work-room = room-off d (s .work) (q .0);
-        magnitude-room = room-off d (s .magnitude) (q .1 .0);
-        gx-room = room-off d (s .gx) (q .1 .1 .0);
-        gy-room = room-off d (s .gy) (q .1 .1 .1 .0);
-        blurred-room = room-off d (s .blurred) (q .1 .1 .1 .1 .0);
+        work-room = rooms .work;
+        magnitude-room = rooms .magnitude;
+        gx-room = rooms .gx;
+        gy-room = rooms .gy;
+        blurred-room = rooms .blurred;
       }
-
-  pub record Rooms : Type 0 where
-    pub small : area d ≤ 409600
-    pub marks-room : area d ≤ length (s .marks)
-    pub stack-room : area d ≤ length (s .stack)
-    pub out-room : area d ≤ length out
-
-  pub rooms : Rooms
-  rooms =
-      let p = off (runRows d pixels taps t s out) tt e in
-      let q = p .1 .1 .1 .1 .1 .1 .1 .1 .1 .1 .1 in
-      record { small = side-off d (p .0) .small; marks-room = room-off d (s .marks) (q .0); stack-room = room-off d (s .stack) (q .1 .0); out-room = room-off d out (q .1 .1 .0) }
 
   -- a walk over the suppressed magnitudes is accepted
   suppressed-long : length (suppressedOf d pixels taps) ≡ area d
@@ -109,63 +105,58 @@ module _ (d : Size) (pixels : List ℕ) (taps : List Float) (t : Thresholds) (s 
   pub startable : first (startRows d t (suppressedOf d pixels taps) (s .marks) (s .stack)) ≡ 0
   startable =
       let p = off (runRows d pixels taps t s out) tt e in
-      none (startRows d t (suppressedOf d pixels taps) (s .marks) (s .stack))
-      (p .0, (input-fits d (suppressedOf d pixels taps) suppressed-long, (p .1 .1 .1 .1 .0, (p .1 .1 .1 .1 .1 .0, (room-fits d (s .marks) (rooms .marks-room), (room-fits d (s .stack) (rooms .stack-room), tt))))))
+      let l = suppressed-long in
+      let r = rooms in
+      sym (search rows depth 9)
 
   -- ---- after the stages up to suppression
 
-  module _ (work' magnitude' : List Float) (gx' gy' : List ℤ) (blurred' : List ℕ) (u : Suppressed d pixels taps (s .work) (s .magnitude) (s .gx) (s .gy) (s .blurred) work' magnitude' gx' gy' blurred') where
-    abbrev F : ℕ → Float
-    F i = getD (suppressedOf d pixels taps) i nan
-
+  module _ {work' magnitude' : List Float} {gx' gy' : List ℤ} {blurred' : List ℕ}
+      (u : Suppressed d pixels taps (s .work) (s .magnitude) (s .gx) (s .gy) (s .blurred) work' magnitude' gx' gy' blurred') where
     -- the walk reads the suppressed magnitudes
-    pub read : take (area d) work' ≡ suppressedOf d pixels taps
+    read : take (area d) work' ≡ suppressedOf d pixels taps
     read =
-        take-filled (area d) F (s .work) work' (u .is)
-        ∙ ap (λ (n : ℕ). tabulate n F) (sym suppressed-long)
+        take-filled (area d) _ (s .work) work' (u .is)
+        ∙ ap (λ (n : ℕ). tabulate n (λ i. getD (suppressedOf d pixels taps) i nan)) (sym suppressed-long)
         ∙ tabulate-getD (suppressedOf d pixels taps) nan
 
     pub walkable : Walkable d t work' (s .marks) (s .stack) out
     walkable = record {
       accepted = ap (λ (l : List Float). first (startRows d t l (s .marks) (s .stack))) read ∙ startable;
-      long = omega (arith, ap length (u .is) ∙ length-filled (area d) F (s .work) (granted .work-room), granted .work-room);
-      room = rooms .out-room;
+      long = omega (arith, ap length (u .is) ∙ length-filled (area d) _ (s .work) (granted .work-room), granted .work-room);
+      room = rooms .room;
     }
 
     -- ---- after the walk and the clearing
 
-    module _ (marks' stack' out' : List ℕ) (w : Walked d t work' (s .marks) (s .stack) out marks' stack' out') where
-      abbrev E : List ℕ
-      E = runEdges d pixels taps t
-
-      out-is : out' ≡ filled (area d) (λ q. getD E q 0) out
+    module _ {marks' stack' out' : List ℕ} (w : Walked d t work' (s .marks) (s .stack) out marks' stack' out') where
+      out-is : out' ≡ filled (area d) (λ q. getD (runEdges d pixels taps t) q 0) out
       unfolding runEdges
       out-is = w .is ∙ ap (λ (l : List Float). filled (area d) (λ q. getD (edgesOf d t l) q 0) out) read
 
-      counted : tally (λ q. eqb (getD out' q 0) 255) (area d) ≡ countOf d E
+      counted : tally (λ q. eqb (getD out' q 0) 255) (area d) ≡ countOf d (runEdges d pixels taps t)
       unfolding countOf
-      counted = tally-eq _ _ (area d) (λ q l. ap (λ (v : ℕ). eqb v 255) (filled-at (area d) (λ q. getD E q 0) out out' 0 q out-is l))
+      counted = tally-eq _ _ (area d) (λ q l. ap (λ (v : ℕ). eqb v 255) (filled-at (area d) _ out out' 0 q out-is l))
 
-      -- cleared after the stages is cleared from the start, where there is room
-      clear-past : {A : Type 0} (z : A) (o l r : List A) → drop (area d) l ≡ drop (area d) o → area d ≤ length l → r ≡ clearedTo (area d) z l → r ≡ cleared (area d) z o
-      clear-past z o l r p h q = let e : min (area d) (length l) ≡ area d = omega arith in (rw e at q) ∙ rw p
-
-      pub ran : (c : ℕ) (work'' magnitude'' : List Float) (gx'' gy'' : List ℤ) (blurred'' marks'' stack'' : List ℕ)
+      pub ran : {c : ℕ} {work'' magnitude'' : List Float} {gx'' gy'' : List ℤ} {blurred'' marks'' stack'' : List ℕ}
           → Roomy d (scratch work' magnitude' gx' gy' blurred' marks' stack') out'
-          → (magnitude'' ≡ clearedTo (area d) plusZero magnitude') × (gx'' ≡ clearedTo (area d) (pos 0) gx') × (gy'' ≡ clearedTo (area d) (pos 0) gy') × (blurred'' ≡ clearedTo (area d) 0 blurred')
+          → (magnitude'' ≡ clearedTo (area d) plusZero magnitude')
+          × (gx'' ≡ clearedTo (area d) (pos 0) gx')
+          × (gy'' ≡ clearedTo (area d) (pos 0) gy')
+          × (blurred'' ≡ clearedTo (area d) 0 blurred')
           → (work'' ≡ clearedTo (area d) plusZero work') × (marks'' ≡ clearedTo (area d) 0 marks') × (stack'' ≡ clearedTo (area d) 0 stack')
           → c ≡ tally (λ q. eqb (getD out' q 0) 255) (min (area d) (length out'))
           → (c, (out', scratch work'' magnitude'' gx'' gy'' blurred'' marks'' stack'')) ≡ accepted d pixels taps t s out
-      ran c work'' magnitude'' gx'' gy'' blurred'' marks'' stack'' h a b k =
+      ran h a b k =
           let e : min (area d) (length out') ≡ area d = omega (arith, h .room) in
           rw (
             (rw e at k) ∙ counted,
             out-is,
-            clear-past plusZero (s .work) work' work'' (drop-filled (area d) F (s .work) work' (u .is)) (h .work) (b .0),
-            clear-past plusZero (s .magnitude) magnitude' magnitude'' (u .magnitude-kept) (h .magnitude) (a .0),
-            clear-past (pos 0) (s .gx) gx' gx'' (u .gx-kept) (h .gx) (a .1),
-            clear-past (pos 0) (s .gy) gy' gy'' (u .gy-kept) (h .gy) (a .2),
-            clear-past 0 (s .blurred) blurred' blurred'' (u .blurred-kept) (h .blurred) (a .3),
-            clear-past 0 (s .marks) marks' marks'' (w .marks-kept) (h .marks) (b .1),
-            clear-past 0 (s .stack) stack' stack'' (w .stack-kept) (h .stack) (b .2),
+            clear-past (area d) plusZero (s .work) work' (drop-filled (area d) _ (s .work) work' (u .is)) (h .work) (b .0),
+            clear-past (area d) plusZero (s .magnitude) magnitude' (u .magnitude-kept) (h .magnitude) (a .0),
+            clear-past (area d) (pos 0) (s .gx) gx' (u .gx-kept) (h .gx) (a .1),
+            clear-past (area d) (pos 0) (s .gy) gy' (u .gy-kept) (h .gy) (a .2),
+            clear-past (area d) 0 (s .blurred) blurred' (u .blurred-kept) (h .blurred) (a .3),
+            clear-past (area d) 0 (s .marks) marks' (w .marks-kept) (h .marks) (b .1),
+            clear-past (area d) 0 (s .stack) stack' (w .stack-kept) (h .stack) (b .2),
           )

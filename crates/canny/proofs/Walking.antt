@@ -1,6 +1,6 @@
 -- A walk to its end: the start, one slice and the map request are all accepted, and the map is the definition's, whatever the buffers held.
 -- Assumes nothing.
-use mathlib.Core.Path.{_≡_, refl, sym, ap, subst, _∙_}
+use mathlib.Core.Path.{_≡_, refl, sym, ap, _∙_}
 use mathlib.Core.Bool.{Bool, true, false, cond}
 use mathlib.Core.List.{List, [], _∷_}
 use Prim.Native.Nat.{ℕ, _+_, _-_, _<_, _≤_}
@@ -9,8 +9,8 @@ use lib.Dec.{T, eqb}
 use lib.ListN.{length, getD, take, drop}
 use lib.Ieee.{Float}
 use borrow.Author.Tests.{eq-eqb, ne-eqb}
-use Rattle.rules.specs.Picture.{area, tabulate, zeros, filled}
-use Rattle.rules.specs.Walk.{State, state, has, sliced, takes, atLeast, edge, mapped}
+use Rattle.rules.specs.Picture.{area, zeros, filled}
+use Rattle.rules.specs.Walk.{State, has, sliced, takes, atLeast, edge, mapped}
 use Rattle.rules.specs.Refusals.{first, startRows, sliceRows, mapRows}
 use Rattle.rules.specs.Calls as Calls
 use Rattle.rules.specs.Calls.{walkOf, lent, afterStart, afterSlice, sliceTakes}
@@ -22,9 +22,9 @@ use Rattle.rules.specs.declared.Thresholds.{Thresholds}
 use Rattle.rules.specs.declared.Started.{Started}
 use Rattle.rules.specs.declared.Sliced.{Sliced}
 use Rattle.rules.specs.declared.Mapped.{Mapped}
-use Rattle.rules.proofs.Bools.{true-is, is-true, clash}
+use Rattle.rules.proofs.Bools.{true-is, is-true}
 use Rattle.rules.proofs.Fill.{length-tabulate, getD-tabulate, recount, first-part}
-use Rattle.rules.proofs.Rows.{off, none, room-fits}
+use Rattle.rules.proofs.Rows.{off, rows}
 use Rattle.rules.proofs.Tallies.{tally-eq}
 use Rattle.rules.proofs.Paths.{way-in, joined-tells, joined-count, same-count}
 use Rattle.hysteresis.proofs.Demand.{demand-3, end-tells}
@@ -63,11 +63,10 @@ module _ (d : Size) (t : Thresholds) (magnitudes : List Float) (marks stack : Li
 
   slice-accepted : first (sliceRows d (area d + 1) begun) ≡ 0
   unfolding Calls.slice afterAll heldAt
-  slice-accepted =
-      subst (λ (h : Held). Calls.slice (h .walk) (area d + 1) (h .marks) (h .stack) .0 .refusal ≡ 0) held-begun
-      (demand-3 d t magnitudes marks stack refusal-is [] .next (area d + 1) (omega arith))
+  slice-accepted = rw held-begun at (demand-3 d t magnitudes marks stack refusal-is [] .next (area d + 1) (omega arith))
 
-  slice-is : Calls.slice (walkOf d (begun .pending)) (area d + 1) (begun .marks) (begun .stack) ≡ (record { refusal = 0; takes = takes d (area d + 1) begun; walk = walkOf d (ended .pending) }, lent ended)
+  slice-is : Calls.slice (walkOf d (begun .pending)) (area d + 1) (begun .marks) (begun .stack)
+      ≡ (record { refusal = 0; takes = takes d (area d + 1) begun; walk = walkOf d (ended .pending) }, lent ended)
   unfolding Calls.slice afterSlice sliceTakes
   slice-is = rw slice-accepted
 
@@ -80,27 +79,22 @@ module _ (d : Size) (t : Thresholds) (magnitudes : List Float) (marks stack : Li
   abbrev finished : (ended .pending ≡ 0) × Tells d (atLeast (t .high) magnitudes) (atLeast (t .low) magnitudes) (has 3 (ended .marks))
   finished = end-tells d t magnitudes marks stack refusal-is
 
-  map-is : (out : List ℕ) → area d ≤ length out → Calls.map (walkOf d (ended .pending)) (ended .marks) (ended .stack) out ≡ (record { refusal = 0; walk = walkOf d (ended .pending) }, mapped (area d) (ended .marks) out)
+  map-is : (out : List ℕ) → area d ≤ length out → Calls.map (walkOf d (ended .pending)) (ended .marks) (ended .stack) out
+      ≡ (record { refusal = 0; walk = walkOf d (ended .pending) }, mapped (area d) (ended .marks) out)
   unfolding Calls.map heldAt
   map-is out room =
       let p = demand-3 d t magnitudes marks stack refusal-is (slice (area d + 1) ∷ []) in
-      let given = subst (λ (h : Held). h .walk .pending ≡ 0 → Calls.map (h .walk) (h .marks) (h .stack) out .0 .refusal ≡ 0) held-ended (λ z. p .map-given z out room) in
-      let number : first (mapRows d ended out) ≡ 0 = given (finished .0) in
+      let number : first (mapRows d ended out) ≡ 0 = (rw held-ended at (p .map-given)) (finished .0) out room in
       rw number
 
   -- ---- the buffers past the picture
 
-  marks-past : drop (area d) (ended .marks) ≡ drop (area d) marks
+  past : (drop (area d) (ended .marks) ≡ drop (area d) marks) × (drop (area d) (ended .stack) ≡ drop (area d) stack)
   unfolding afterStart
-  marks-past =
-      past-sliced d (area d + 1) begun (slice-fit d (area d + 1) begun slice-accepted) .marks
-      ∙ past-started d (atLeast (t .high) magnitudes) (atLeast (t .low) magnitudes) marks stack .marks
-
-  stack-past : drop (area d) (ended .stack) ≡ drop (area d) stack
-  unfolding afterStart
-  stack-past =
-      past-sliced d (area d + 1) begun (slice-fit d (area d + 1) begun slice-accepted) .stack
-      ∙ past-started d (atLeast (t .high) magnitudes) (atLeast (t .low) magnitudes) marks stack .stack
+  past =
+      let x = past-sliced d (area d + 1) begun (slice-fit d (area d + 1) begun slice-accepted) in
+      let y = past-started d (atLeast (t .high) magnitudes) (atLeast (t .low) magnitudes) marks stack in
+      (x .marks ∙ y .marks, x .stack ∙ y .stack)
 
 -- ---- the map is the same from any buffers: from these, and from the definition's
 
@@ -109,10 +103,7 @@ module _ (d : Size) (t : Thresholds) (magnitudes : List Float) (marks stack : Li
   zeros-room = let e = length-tabulate {A = ℕ} (area d) (λ i. 0) in omega arith
 
   zeros-accepted : first (startRows d t magnitudes (zeros (area d)) (zeros (area d))) ≡ 0
-  zeros-accepted =
-      let p = off (startRows d t magnitudes marks stack) tt e in
-      none (startRows d t magnitudes (zeros (area d)) (zeros (area d)))
-      (p .0, (p .1 .0, (p .1 .1 .0, (p .1 .1 .1 .0, (room-fits d (zeros (area d)) zeros-room, (room-fits d (zeros (area d)) zeros-room, tt))))))
+  zeros-accepted = let p = off (startRows d t magnitudes marks stack) tt e in let z = zeros-room in sym (search rows depth 9)
 
   same-mark : (q : ℕ) → q < area d → has 3 (ended d t magnitudes marks stack e .marks) q ≡ has 3 (endOf d t magnitudes .marks) q
   unfolding endOf
@@ -121,11 +112,13 @@ module _ (d : Size) (t : Thresholds) (magnitudes : List Float) (marks stack : Li
       let b = finished d t magnitudes (zeros (area d)) (zeros (area d)) zeros-accepted .1 in
       agree _ _ (λ x. b .complete q (a .sound q l x)) (λ x. a .complete q (b .sound q l x))
 
-  pub edges-are : (out out' : List ℕ) → out' ≡ mapped (area d) (ended d t magnitudes marks stack e .marks) out → out' ≡ filled (area d) (λ q. getD (edgesOf d t magnitudes) q 0) out
+  edge-at : (q : ℕ) → q < area d → getD (edgesOf d t magnitudes) q 0 ≡ edge (getD (endOf d t magnitudes .marks) q 0)
   unfolding edgesOf
-  edges-are out out' p =
-      recount (area d) _ _ out out' p
-      (λ q l. ap (λ (b : Bool). cond b 255 0) (same-mark q l) ∙ sym (getD-tabulate (area d) (λ (q : ℕ). edge (getD (endOf d t magnitudes .marks) q 0)) 0 q l))
+  edge-at q l = getD-tabulate (area d) _ 0 q l
+
+  edges-are : (out out' : List ℕ) → out' ≡ mapped (area d) (ended d t magnitudes marks stack e .marks) out
+      → out' ≡ filled (area d) (λ q. getD (edgesOf d t magnitudes) q 0) out
+  edges-are out out' p = recount (area d) _ _ out out' p (λ q l. ap (λ (b : Bool). cond b 255 0) (same-mark q l) ∙ sym (edge-at q l))
 
   -- ---- and it is demand 3's: 255 at the joined pixels, 0 elsewhere
 
@@ -138,10 +131,6 @@ module _ (d : Size) (t : Thresholds) (magnitudes : List Float) (marks stack : Li
   told : Tells d hi lo (has 3 (endOf d t magnitudes .marks))
   unfolding endOf
   told = finished d t magnitudes (zeros (area d)) (zeros (area d)) zeros-accepted .1
-
-  edge-at : (q : ℕ) → q < area d → getD (edgesOf d t magnitudes) q 0 ≡ edge (getD (endOf d t magnitudes .marks) q 0)
-  unfolding edgesOf
-  edge-at q l = getD-tabulate (area d) (λ (q : ℕ). edge (getD (endOf d t magnitudes .marks) q 0)) 0 q l
 
   pub edge-on : (q : ℕ) → Joined d hi lo q → getD (edgesOf d t magnitudes) q 0 ≡ 255
   edge-on q j = edge-at q (way-in d lo (j .way)) ∙ ap (λ (b : Bool). cond b 255 0) (true-is (has 3 (endOf d t magnitudes .marks) q) (told .complete q j))
@@ -164,29 +153,21 @@ module _ (d : Size) (t : Thresholds) (magnitudes : List Float) (marks stack : Li
 
 -- ---- the three calls in turn
 
-module _ (d : Size) (t : Thresholds) (suppressed : List Float) (marks stack out : List ℕ) (w : Walkable d t suppressed marks stack out) (r : Started) (m₁ s₁ : List ℕ)
-    (e₁ : (r, (m₁, s₁)) ≡ Calls.start d t (take (area d - 0) (drop 0 suppressed)) marks stack) (r₂ : Sliced) (m₂ s₂ : List ℕ) (e₂ : (r₂, (m₂, s₂)) ≡ Calls.slice (r .walk) (area d + 1) m₁ s₁)
-    (r₃ : Mapped) (out' : List ℕ) (e₃ : (r₃, out') ≡ Calls.map (r₂ .walk) m₂ s₂ out) where
-  abbrev S : List Float
-  S = take (area d) suppressed
-
-  at-start : _≡_ {A = Started × (List ℕ × List ℕ)} (r, (m₁, s₁)) (record { refusal = 0; walk = walkOf d (begun d t S marks stack (w .accepted) .pending) }, lent (begun d t S marks stack (w .accepted)))
-  at-start = e₁ ∙ ap (λ (l : List Float). Calls.start d t l marks stack) (first-part (area d) suppressed) ∙ start-is d t S marks stack (w .accepted)
-
-  at-end : _≡_ {A = Sliced × (List ℕ × List ℕ)} (r₂, (m₂, s₂)) (record { refusal = 0; takes = takes d (area d + 1) (begun d t S marks stack (w .accepted)); walk = walkOf d (ended d t S marks stack (w .accepted) .pending) }, lent (ended d t S marks stack (w .accepted)))
-  at-end =
-      e₂ ∙ ap (λ (a : Started × (List ℕ × List ℕ)). Calls.slice (a .0 .walk) (area d + 1) (a .1 .0) (a .1 .1)) at-start
-      ∙ slice-is d t S marks stack (w .accepted)
-
-  at-map : _≡_ {A = Mapped × List ℕ} (r₃, out') (record { refusal = 0; walk = walkOf d (ended d t S marks stack (w .accepted) .pending) }, mapped (area d) (ended d t S marks stack (w .accepted) .marks) out)
-  at-map =
-      e₃ ∙ ap (λ (a : Sliced × (List ℕ × List ℕ)). Calls.map (a .0 .walk) (a .1 .0) (a .1 .1) out) at-end
-      ∙ map-is d t S marks stack (w .accepted) out (w .room)
-
-  pub walked : Walked d t suppressed marks stack out m₂ s₂ out'
-  walked =
-      record {
-        is = edges-are d t S marks stack (w .accepted) out out' (ap (λ (a : Mapped × List ℕ). a .1) at-map);
-        marks-kept = ap (λ (a : Sliced × (List ℕ × List ℕ)). drop (area d) (a .1 .0)) at-end ∙ marks-past d t S marks stack (w .accepted);
-        stack-kept = ap (λ (a : Sliced × (List ℕ × List ℕ)). drop (area d) (a .1 .1)) at-end ∙ stack-past d t S marks stack (w .accepted);
-      }
+pub walked : {d : Size} {t : Thresholds} {suppressed : List Float} {marks stack out : List ℕ} → Walkable d t suppressed marks stack out
+    → {r : Started} {m₁ s₁ : List ℕ} → (r, (m₁, s₁)) ≡ Calls.start d t (take (area d - 0) (drop 0 suppressed)) marks stack
+    → {r₂ : Sliced} {m₂ s₂ : List ℕ} → (r₂, (m₂, s₂)) ≡ Calls.slice (r .walk) (area d + 1) m₁ s₁
+    → {r₃ : Mapped} {out' : List ℕ} → (r₃, out') ≡ Calls.map (r₂ .walk) m₂ s₂ out → Walked d t suppressed marks stack out m₂ s₂ out'
+walked {d} {t} {suppressed} {marks} {stack} {out} w e₁ e₂ {out' = out'} e₃ =
+    let S = take (area d) suppressed in
+    let at-start = (rw (first-part (area d) suppressed) at e₁) ∙ start-is d t S marks stack (w .accepted) in
+    let at-end =
+    e₂ ∙ ap (λ (a : Started × (List ℕ × List ℕ)). Calls.slice (a .0 .walk) (area d + 1) (a .1 .0) (a .1 .1)) at-start
+    ∙ slice-is d t S marks stack (w .accepted) in
+    let at-map =
+    e₃ ∙ ap (λ (a : Sliced × (List ℕ × List ℕ)). Calls.map (a .0 .walk) (a .1 .0) (a .1 .1) out) at-end
+    ∙ map-is d t S marks stack (w .accepted) out (w .room) in
+    record {
+      is = edges-are d t S marks stack (w .accepted) out out' (ap (λ (a : Mapped × List ℕ). a .1) at-map);
+      marks-kept = ap (λ (a : Sliced × (List ℕ × List ℕ)). drop (area d) (a .1 .0)) at-end ∙ past d t S marks stack (w .accepted) .0;
+      stack-kept = ap (λ (a : Sliced × (List ℕ × List ℕ)). drop (area d) (a .1 .1)) at-end ∙ past d t S marks stack (w .accepted) .1;
+    }

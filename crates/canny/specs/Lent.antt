@@ -7,7 +7,7 @@ use lib.Dec.{ltb}
 use lib.ListN.{length, getD, take, drop}
 use lib.IntN.{ℤ}
 use lib.Ieee.{Float, nan}
-use Rattle.rules.specs.Limits.{maxSide, maxTaps}
+use Rattle.rules.specs.Limits.{maxTaps}
 use Rattle.rules.specs.Picture.{area, filled}
 use Rattle.rules.specs.Refusals.{Rule, Scratch, rule, first, sideRow, inputRow, countRow, weightRow, thresholdRow, orderRow, startRows}
 use Rattle.rules.specs.Run.{suppressedOf, edgesOf, runEdges, countOf, clearedScratch}

@@ -4,11 +4,12 @@ use hysteresis::map;
 use hysteresis::slice;
 use hysteresis::start;
 use rules::BorderMode;
+use rules::EDGE;
 use rules::Size;
 use rules::Thresholds;
 use scratch::clear_stages;
 use scratch::clear_walk;
-use scratch::count_edges;
+use scratch::count_of;
 use sobel::sobel_gradients;
 use suppression::gradient_magnitude;
 use suppression::non_maximum_suppression;
@@ -81,5 +82,5 @@ pub(crate) fn run(
     clear_stages(magnitude, gx, gy, blurred, n);
     walk(work, size, thresholds, marks, stack, map);
     clear_walk(work, marks, stack, n);
-    count_edges(map, n)
+    count_of(map, EDGE, n)
 }

@@ -1,9 +1,9 @@
 // What the numbers of a case mean, by their places in its line.
 use crate::buffers::ROOM;
 use cases::count;
-use cases::float;
 use rules::Size;
 use rules::Thresholds;
+use rules::pattern::float;
 ghost use Prim.Native.Nat.{_≤_};
 ghost use lib.ListN.{length};
 ghost use mathlib.Core.Path.{_≡_};

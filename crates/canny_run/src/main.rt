@@ -6,9 +6,6 @@ mod lines;
 
 use libc::STDIN_FILENO;
 
-// More lines than the file has.
-const MOST_LINES: usize = 100;
-
 fn main() {
     let mut text = io::large_buffer();
     let n = io::read_full(STDIN_FILENO, &mut text);
@@ -17,16 +14,14 @@ fn main() {
 
 fn lines_of(text: &[u8]) {
     let mut at = 0;
-    let mut i = 0;
-    while i < MOST_LINES {
-        line(text, &mut at);
-        i += 1;
+    while at < text.len() {
+        let case = cases::case(text, &mut at);
+        line(&case);
     }
 }
 
-fn line(text: &[u8], at: &mut usize) {
-    let case = cases::case(text, at);
+fn line(case: &[u32; 80]) {
     if case[0] != 0 {
-        buffers::run(&case);
+        buffers::run(case);
     }
 }

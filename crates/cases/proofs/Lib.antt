@@ -1,2 +1,3 @@
--- How far below -1 a signed number reaches.
+-- How far below -1 a signed number reaches, and lists turned into numbers of other types.
 pub mod Below
+pub mod Turning

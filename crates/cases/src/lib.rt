@@ -1,12 +1,18 @@
 // Cases that stand in a text, one to a line: a name, a colon, and numbers with a space before each. A line that begins with # is a remark.
 // A number is 12, -12 (the pattern of 32 bits), x7fc00000 (bits) or f12 (the bits of the float 12). What is misread shows in what the
 // program writes.
+use rules::BorderMode;
+use rules::pattern::float;
+use scratch::least;
 ghost use mathlib.Core.Path.{_≡_};
-ghost use mathlib.Core.Bool.{_&&_};
-ghost use Prim.Native.Nat.{_≤_};
+ghost use mathlib.Core.Bool.{_&&_, cond};
+ghost use Prim.Native.Nat.{_≤_, _%_, min};
 ghost use lib.Dec.{eqb, ltb};
 ghost use lib.ListN.{length, getD};
 ghost use lib.Ieee.{binary32, ofBits};
+ghost use Rattle.rules.specs.declared.BorderMode.the-variants.{Zero, Clamp, Mirror};
+ghost use Rattle.cases.specs.Lines.{Case, Onward};
+ghost use Rattle.cases.specs.Lists.{Turned, signedOf};
 
 // How many numbers a case has; those that its line leaves out are 0.
 pub const ROW: usize = 80;
@@ -21,7 +27,7 @@ const COLON: u8 = 58;
 
 // The line at `at`: writes its name and gives its numbers. `at` is then the next line. A remark writes nothing, and gives zeros.
 pub fn case(text: &[u8], at: &mut usize) -> [u32; 80]
-    ensures { λ r. ⌜ 80 ≡ length r ⌝ }
+    ensures { λ r. ⌜ Case (now (text .entry)) (now (at .entry)) (now (at .exit)) r ⌝ }
 {
     let from = *at;
     *at = next_line(text, from);
@@ -60,7 +66,7 @@ fn place_of(text: &[u8], from: usize, a: u8, b: u8) -> usize
 }
 
 pub fn next_line(text: &[u8], from: usize) -> usize
-    ensures { λ r. ⌜ from ≤ r ⌝ }
+    ensures { λ r. ⌜ Onward (now (text .entry)) from r ⌝ }
 {
     let end = place_of(text, from, NEWLINE, NEWLINE);
     if end < text.len() {
@@ -183,25 +189,24 @@ pub fn count(n: u32) -> usize
     n as usize
 }
 
-// The same as a length of something that has `most` entries.
-pub fn at_most(n: u32, most: usize) -> usize
-    ensures { λ r. ⌜ r ≤ most ⌝ }
+// A border: 0 is Zero, 1 Clamp, all else Mirror.
+pub fn border(n: u32) -> BorderMode
+    ensures { λ r. ⌜ r ≡ cond (eqb n 0) Zero (cond (eqb n 1) Clamp Mirror) ⌝ }
 {
-    let n = n as usize;
-    if most < n {
-        return most;
+    if n == 0 {
+        return BorderMode::Zero;
     }
-    n
+    if n == 1 {
+        return BorderMode::Clamp;
+    }
+    BorderMode::Mirror
 }
 
-// The float of a pattern.
-pub fn float(bits: u32) -> f32
-    ensures { λ r. ⌜ r ≡ ofBits binary32 bits ⌝ }
+// The same as a length of something that has `most` entries.
+pub fn at_most(n: u32, most: usize) -> usize
+    ensures { λ r. ⌜ (r ≤ most) × (r ≡ min n most) ⌝ }
 {
-    if 0x7f80_0000 < bits % 0x8000_0000 {
-        return report::nan();
-    }
-    f32::from_bits(bits)
+    least(n as usize, most)
 }
 
 // A list: its count and then its numbers, as many as there is room for.
@@ -223,49 +228,45 @@ pub fn list(text: &[u8], at: &mut usize, out: &mut [u32]) -> usize
 
 // A list as bytes, as floats of its patterns, and as signed numbers, as far as there is room; how many.
 pub fn bytes(list: &[u32], out: &mut [u8]) -> usize
-    ensures { λ r. ⌜ r ≤ length (now (out .exit)) ⌝ }
+    ensures { λ r. ⌜ Turned (λ v. v % 256) (now (list .entry)) (now (out .entry)) (now (out .exit)) r ⌝ }
 {
+    let most = least(list.len(), out.len());
     let mut i = 0;
-    while i < list.len() {
-        if out.len() <= i {
-            return i;
-        }
+    while i < most {
         out[i] = (list[i] % 256) as u8;
         i += 1;
     }
-    i
+    most
 }
 
 pub fn floats(list: &[u32], out: &mut [f32]) -> usize
-    ensures { λ r. ⌜ r ≤ length (now (out .exit)) ⌝ }
+    ensures { λ r. ⌜ Turned (ofBits binary32) (now (list .entry)) (now (out .entry)) (now (out .exit)) r ⌝ }
 {
+    let most = least(list.len(), out.len());
     let mut i = 0;
-    while i < list.len() {
-        if out.len() <= i {
-            return i;
-        }
+    while i < most {
         out[i] = float(list[i]);
         i += 1;
     }
-    i
+    most
 }
 
 pub fn numbers(list: &[u32], out: &mut [i16]) -> usize
-    ensures { λ r. ⌜ r ≤ length (now (out .exit)) ⌝ }
+    ensures { λ r. ⌜ Turned signedOf (now (list .entry)) (now (out .entry)) (now (out .exit)) r ⌝ }
 {
+    let most = least(list.len(), out.len());
     let mut i = 0;
-    while i < list.len() {
-        if out.len() <= i {
-            return i;
-        }
+    while i < most {
         out[i] = signed(list[i]);
         i += 1;
     }
-    i
+    most
 }
 
 // The signed number of a pattern's low 16 bits.
-pub fn signed(bits: u32) -> i16 {
+pub fn signed(bits: u32) -> i16
+    ensures { λ r. ⌜ r ≡ signedOf bits ⌝ }
+{
     let low = bits % 65536;
     if low < 32768 {
         return low as i16;

@@ -1,5 +1,4 @@
 -- Laws about this crate's code that several of its proofs cite.
-pub mod Reading
 pub mod Magic
 pub mod Rounding
 pub mod Taps

@@ -37,7 +37,22 @@ pub record Inner (at half width n lo hi s : ℕ) : Type 0 where
   pub in-row : s + (hi - lo) ≤ width
   pub column : lo < hi → s + half ≡ at + lo
 
--- n pixels from column x of row y on, and room for their sums
+-- ---- what is read: a byte picture with a kernel, and an f32 picture with a column of taps
+
+pub record Bytes (d : Size) (k : Kernel) (pixels : List ℕ) (weights : List Float) : Type 0 where
+  pub long : length pixels ≡ area d
+  pub kernel-wide : 0 < k .width
+  pub kernel-high : 0 < k .height
+  pub kernel-width : k .width ≤ maxTaps
+  pub kernel-height : k .height ≤ maxTaps
+  pub count : length weights ≡ k .width * k .height
+
+pub record Floats (d : Size) (entries taps : List Float) : Type 0 where
+  pub long : area d ≤ length entries
+  pub few : length taps ≤ maxTaps
+
+-- ---- n pixels from column x of row y on, and room for their sums
+
 pub record Block (d : Size) (x y n : ℕ) (sums : List Float) : Type 0 where
   pub row : y < d .height
   pub columns : x + n ≤ d .width
@@ -45,42 +60,29 @@ pub record Block (d : Size) (x y n : ℕ) (sums : List Float) : Type 0 where
   pub height-fits : d .height ≤ maxSide
   pub room : n ≤ length sums
 
--- with a byte picture and a kernel
 pub record ByteBlock (d : Size) (k : Kernel) (pixels : List ℕ) (weights : List Float) (x y n : ℕ) (sums : List Float) : Type 0 where
   pub block : Block d x y n sums
   pub wide : 0 < d .width
-  pub long : length pixels ≡ area d
-  pub kernel-wide : 0 < k .width
-  pub kernel-high : 0 < k .height
-  pub kernel-width : k .width ≤ maxTaps
-  pub kernel-height : k .height ≤ maxTaps
-  pub count : length weights ≡ k .width * k .height
+  pub source : Bytes d k pixels weights
 
--- with an f32 picture and a column of taps
 pub record FloatBlock (d : Size) (entries taps : List Float) (x y n : ℕ) (sums : List Float) : Type 0 where
   pub block : Block d x y n sums
-  pub long : area d ≤ length entries
-  pub few : length taps ≤ maxTaps
+  pub source : Floats d entries taps
 
--- a pass over a whole byte picture with a kernel, and room for what it writes
+-- ---- a pass over a whole picture, and room for what it writes
+
+pub record Whole {A : Type 0} (d : Size) (out : List A) : Type 0 where
+  pub width-fits : d .width ≤ maxSide
+  pub height-fits : d .height ≤ maxSide
+  pub room : area d ≤ length out
+
 pub record BytePass {A : Type 0} (d : Size) (k : Kernel) (pixels : List ℕ) (weights : List Float) (out : List A) : Type 0 where
-  pub width-fits : d .width ≤ maxSide
-  pub height-fits : d .height ≤ maxSide
-  pub long : length pixels ≡ area d
-  pub kernel-wide : 0 < k .width
-  pub kernel-high : 0 < k .height
-  pub kernel-width : k .width ≤ maxTaps
-  pub kernel-height : k .height ≤ maxTaps
-  pub count : length weights ≡ k .width * k .height
-  pub room : area d ≤ length out
+  pub whole : Whole d out
+  pub source : Bytes d k pixels weights
 
--- over a whole f32 picture with a column of taps
 pub record FloatPass (d : Size) (entries taps : List Float) (out : List ℕ) : Type 0 where
-  pub width-fits : d .width ≤ maxSide
-  pub height-fits : d .height ≤ maxSide
-  pub long : area d ≤ length entries
-  pub few : length taps ≤ maxTaps
-  pub room : area d ≤ length out
+  pub whole : Whole d out
+  pub source : Floats d entries taps
 
 -- how many sums are kept at a time, where they have no lent place
 abbrev pub blockLength : ℕ

@@ -3,7 +3,6 @@ use crate::passes::BLOCK;
 use crate::passes::convolve;
 use crate::passes::horizontal_pass;
 use crate::passes::vertical_pass;
-use crate::sums::clear;
 pub use border::coord::resolve_coord;
 use refusals::filter::of_kernel;
 use refusals::filter::of_separable;
@@ -12,6 +11,7 @@ use rules::BorderMode;
 use rules::Kernel;
 use rules::SeparableKernel;
 use rules::Size;
+use scratch::clear_floats;
 ghost use mathlib.Core.Path.{_≡_};
 ghost use Rattle.rules.specs.Calls.{applyKernel, applySeparableKernel};
 
@@ -55,6 +55,6 @@ pub fn apply_separable_kernel(
     horizontal_pass(pixels, size, horizontal, border, work);
     let mut sums = [0.0f32; BLOCK];
     vertical_pass(work, size, vertical, border, &mut sums, out);
-    clear(work, size.width * size.height);
+    clear_floats(work, size.width * size.height);
     ACCEPTED
 }

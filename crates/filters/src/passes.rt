@@ -3,10 +3,10 @@
 use crate::byte::quantize_row;
 use crate::sums::byte_sums;
 use crate::sums::float_sums;
-use crate::sums::least;
 use rules::BorderMode;
 use rules::Kernel;
 use rules::Size;
+use scratch::least;
 ghost use mathlib.Core.Path.{_≡_};
 ghost use Prim.Native.Nat.{_≤_};
 ghost use lib.ListN.{length};

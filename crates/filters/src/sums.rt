@@ -4,13 +4,15 @@ use border::coord::place;
 use rules::BorderMode;
 use rules::Kernel;
 use rules::Size;
+use scratch::clear_floats;
+use scratch::least;
 ghost use mathlib.Core.Path.{_≡_};
-ghost use Prim.Native.Nat.{_+_, _-_, _*_, _≤_, _<_, min};
+ghost use Prim.Native.Nat.{_+_, _-_, _*_, _≤_, _<_};
 ghost use lib.ListN.{length, getD};
 ghost use lib.IntN.{pos, _-ℤ_};
 ghost use lib.Ieee.{nan};
 ghost use Rattle.rules.specs.Limits.{maxSide, maxTaps};
-ghost use Rattle.rules.specs.Picture.{filled, cleared};
+ghost use Rattle.rules.specs.Picture.{filled};
 ghost use Rattle.rules.specs.Border.{resolved};
 ghost use Rattle.rules.specs.Sums.{plusZero};
 ghost use Rattle.rules.specs.Filters.{ofBytes, ofFloats, sampler, kernelTerm, kernelSum, columnKernel};
@@ -18,18 +20,6 @@ ghost use Rattle.rules.proofs.Sums.{oneMore};
 ghost use Rattle.rules.proofs.Sampling.{placeIn};
 ghost use Rattle.filters.specs.Lent.{Row};
 ghost use Rattle.filters.specs.Blocks.{added, rowAt, Inner, ByteBlock, FloatBlock};
-
-// The first n are +0.
-pub(crate) fn clear(sums: &mut [f32], n: usize)
-    requires { ⌜ n ≤ length (now sums) ⌝ }
-    ensures { λ _. ⌜ now (sums .exit) ≡ cleared n plusZero (now (sums .entry)) ⌝ }
-{
-    let mut i = 0;
-    while i < n {
-        sums[i] = 0.0;
-        i += 1;
-    }
-}
 
 // ---- The two entries of the Rust's `Sample`, bytes and f32; and samples that are all 0, whose products are still added.
 
@@ -105,12 +95,6 @@ fn add_edges(
         sums[i] = sums[i] + edge(row, at + i, half, border) * weight;
         i += 1;
     }
-}
-
-pub(crate) fn least(a: usize, b: usize) -> usize
-    ensures { λ r. ⌜ r ≡ min a b ⌝ }
-{
-    if a < b { a } else { b }
 }
 
 fn less(a: usize, b: usize) -> usize
@@ -222,7 +206,7 @@ pub(crate) fn byte_sums(
     requires { ⌜ ByteBlock size kernel (now pixels) (now weights) x y n (now sums) ⌝ }
     ensures { λ _. ⌜ now (sums .exit) ≡ filled n (λ i. kernelSum (sampler (ofBytes (now (pixels .entry))) size border) kernel (now (weights .entry)) (x + i) y) (now (sums .entry)) ⌝ }
 {
-    clear(sums, n);
+    clear_floats(sums, n);
     let mut j = 0;
     while j < weights.len() {
         add_byte_term(pixels, size, kernel, weights, border, x, y, n, j, sums);
@@ -269,7 +253,7 @@ pub(crate) fn float_sums(
     requires { ⌜ FloatBlock size (now entries) (now taps) x y n (now sums) ⌝ }
     ensures { λ _. ⌜ now (sums .exit) ≡ filled n (λ i. kernelSum (sampler (ofFloats (now (entries .entry))) size border) (columnKernel (length (now (taps .entry)))) (now (taps .entry)) (x + i) y) (now (sums .entry)) ⌝ }
 {
-    clear(sums, n);
+    clear_floats(sums, n);
     let mut k = 0;
     while k < taps.len() {
         add_float_term(entries, size, taps, border, x, y, n, k, sums);

@@ -45,7 +45,7 @@ fn box_filter(made: u32) -> BoxBlurFilter {
     if made == case::BY_NEW {
         return BoxBlurFilter::new();
     }
-    BoxBlurFilter::with_border(case::border_of(made))
+    BoxBlurFilter::with_border(cases::border(made))
 }
 
 fn left(v: &[u32; 80], work: &[f32; 10]) {

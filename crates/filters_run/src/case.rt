@@ -1,27 +1,19 @@
 // What the numbers of a call's case mean, by their places in its line.
 use cases::at_most;
 use cases::count;
-use cases::float;
 use cases::wide;
 use rules::BorderMode;
 use rules::Kernel;
 use rules::SeparableKernel;
 use rules::Size;
+use rules::pattern::float;
 ghost use Prim.Native.Nat.{_≤_};
 ghost use lib.ListN.{length};
 ghost use mathlib.Core.Path.{_≡_};
 
 // Place 1: the border. A function reads its numbers here, where nothing but the line is lent: that is what makes its check short.
 pub(crate) fn border(v: &[u32; 80]) -> BorderMode {
-    border_of(v[1])
-}
-
-pub(crate) fn border_of(n: u32) -> BorderMode {
-    match n {
-        0 => BorderMode::Zero,
-        1 => BorderMode::Clamp,
-        _ => BorderMode::Mirror,
-    }
+    cases::border(v[1])
 }
 
 // In place of a border: what a filter's `new` has.

@@ -24,7 +24,7 @@ fn sharpen_filter(made: u32) -> SharpenFilter {
     if made == case::BY_NEW {
         return SharpenFilter::new();
     }
-    SharpenFilter::with_border(case::border_of(made))
+    SharpenFilter::with_border(cases::border(made))
 }
 
 // A picture of nines by a kernel, with room for 641 pixels. Place 4 has how many pixels, and place 19 how many nines the output has then.

@@ -7,9 +7,6 @@ mod kernels;
 
 use libc::STDIN_FILENO;
 
-// More lines than the file has.
-const MOST_LINES: usize = 150;
-
 fn main() {
     let mut text = io::large_buffer();
     let n = io::read_full(STDIN_FILENO, &mut text);
@@ -18,21 +15,19 @@ fn main() {
 
 fn lines_of(text: &[u8]) {
     let mut at = 0;
-    let mut i = 0;
-    while i < MOST_LINES {
-        line(text, &mut at);
-        i += 1;
+    while at < text.len() {
+        let case = cases::case(text, &mut at);
+        line(&case);
     }
 }
 
 // A line's first number says what its case is of: 1 a coordinate, else a call.
-fn line(text: &[u8], at: &mut usize) {
-    let v = cases::case(text, at);
+fn line(v: &[u32; 80]) {
     let kind = v[0];
     match kind {
         0 => {}
-        1 => borders::run(&v),
-        _ => call(&v),
+        1 => borders::run(v),
+        _ => call(v),
     }
 }
 

@@ -1,7 +1,7 @@
 -- Numbers in decimal: the digits of a tenth, then the last; and how many there are. Assumes nothing.
 use mathlib.Core.Path.{_≡_, refl, ap, _∙_}
-use mathlib.Core.Bool.{Bool, true, false, cond}
-use mathlib.Core.List.{List, [], _∷_, _++_}
+use mathlib.Core.Bool.{Bool, true, false}
+use mathlib.Core.List.{[], _∷_, _++_}
 use Prim.Native.Nat.{ℕ, zero, suc, _+_, _/_, _%_, _<_, _≤_}
 use native.Mathlib.Omega.{arith}
 use lib.Dec.{ltb}
@@ -14,8 +14,7 @@ enough : (m k n : ℕ) → n ≤ m → n ≤ k → decimalBy (suc m) n ≡ decim
 unfolding decimalBy
 enough zero k n p q = let h : n < 10 = omega arith in rw (lt-ltb n 10 h)
 enough (suc m) zero n p q = let h : n < 10 = omega arith in rw (lt-ltb n 10 h)
-enough (suc m) (suc k) n p q =
-    ap (λ (l : List ℕ). cond (ltb n 10) ((48 + n) ∷ []) (l ++ ((48 + n % 10) ∷ []))) (enough m k (n / 10) (omega arith) (omega arith))
+enough (suc m) (suc k) n p q = rw (enough m k (n / 10) (omega arith) (omega arith))
 
 pub one-digit : (n : ℕ) → n < 10 → decimal n ≡ (48 + n) ∷ []
 unfolding decimal decimalBy
@@ -24,9 +23,7 @@ one-digit n h = rw (lt-ltb n 10 h)
 pub more-digits : (n : ℕ) → 10 ≤ n → decimal n ≡ decimal (n / 10) ++ ((48 + n % 10) ∷ [])
 unfolding decimal decimalBy
 more-digits zero h = absurd (omega arith)
-more-digits (suc n) h =
-    ap (λ (b : Bool). cond b ((48 + suc n) ∷ []) (decimalBy (suc n) (suc n / 10) ++ ((48 + suc n % 10) ∷ []))) (le-ltb (suc n) 10 h)
-    ∙ ap (λ (l : List ℕ). l ++ ((48 + suc n % 10) ∷ [])) (enough n (suc n / 10) (suc n / 10) (omega arith) (omega arith))
+more-digits (suc n) h = rw (le-ltb (suc n) 10 h, enough n (suc n / 10) (suc n / 10) (omega arith) (omega arith))
 
 -- ---- how many
 
@@ -37,27 +34,24 @@ pub length-1 : (n : ℕ) → n < 10 → length (decimal n) ≡ 1
 length-1 n h = ap length (one-digit n h)
 
 pub length-2 : (n : ℕ) → 10 ≤ n → n < 100 → length (decimal n) ≡ 2
-length-2 n l h = length-more n l ∙ ap (λ (k : ℕ). k + 1) (length-1 (n / 10) (omega arith))
+length-2 n l h = omega (arith, length-more n l, length-1 (n / 10) (omega arith))
 
 pub length-3 : (n : ℕ) → 100 ≤ n → n < 1000 → length (decimal n) ≡ 3
-length-3 n l h = length-more n (omega arith) ∙ ap (λ (k : ℕ). k + 1) (length-2 (n / 10) (omega arith) (omega arith))
+length-3 n l h = omega (arith, length-more n (omega arith), length-2 (n / 10) (omega arith) (omega arith))
 
 pub length-4 : (n : ℕ) → 1000 ≤ n → n < 10000 → length (decimal n) ≡ 4
-length-4 n l h = length-more n (omega arith) ∙ ap (λ (k : ℕ). k + 1) (length-3 (n / 10) (omega arith) (omega arith))
+length-4 n l h = omega (arith, length-more n (omega arith), length-3 (n / 10) (omega arith) (omega arith))
 
--- a side has at most two digits, a count at most four
-pub few-digits : (n : ℕ) → n < 100 → length (decimal n) ≤ 2
-few-digits n h = go (ltb n 10) refl
+-- at most one more than its tenth has; so a side has at most two, a count at most four
+one-more : (n k : ℕ) → length (decimal (n / 10)) ≤ k → length (decimal n) ≤ k + 1
+one-more n k h = go (ltb n 10) refl
   where
-    go : (b : Bool) → ltb n 10 ≡ b → length (decimal n) ≤ 2
+    go : (b : Bool) → ltb n 10 ≡ b → length (decimal n) ≤ k + 1
     go true e = omega (arith, length-1 n (ltb-true n 10 e))
-    go false e = omega (arith, length-2 n (ltb-false n 10 e) h)
+    go false e = omega (arith, length-more n (ltb-false n 10 e))
+
+pub few-digits : (n : ℕ) → n < 100 → length (decimal n) ≤ 2
+few-digits n h = one-more n 1 (omega (arith, length-1 (n / 10) (omega arith)))
 
 pub four-digits : (n : ℕ) → n < 10000 → length (decimal n) ≤ 4
-four-digits n h = go (ltb n 100) refl
-  where
-    go : (b : Bool) → ltb n 100 ≡ b → length (decimal n) ≤ 4
-    go true e = omega (arith, few-digits n (ltb-true n 100 e))
-    go false e =
-        let l = ltb-false n 100 e in
-        omega (arith, length-more n (omega arith), length-more (n / 10) (omega arith), few-digits (n / 10 / 10) (omega arith))
+four-digits n h = one-more n 3 (one-more (n / 10) 2 (few-digits (n / 10 / 10) (omega arith)))

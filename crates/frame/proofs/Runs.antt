@@ -1,7 +1,7 @@
 -- One run: its answer and its map are the same whatever its scratch holds; what is printed for it; what the layout grants it. Assumes nothing.
 use mathlib.Core.Path.{_≡_, refl, sym, ap, _∙_}
-use mathlib.Core.Bool.{Bool, true, false, not, cond}
-use mathlib.Core.List.{List, [], _∷_, _++_}
+use mathlib.Core.Bool.{Bool, true, false, cond}
+use mathlib.Core.List.{List, _++_}
 use Prim.Native.Nat.{ℕ, _+_, _*_, _/_, _%_, _<_, _≤_}
 use native.Mathlib.Nat.{div-lt-iff-lt-mul}
 use native.Mathlib.Omega.{arith}
@@ -10,7 +10,7 @@ use lib.ListN.{length, getD}
 use lib.IntN.{pos}
 use lib.Ieee.{Float}
 use borrow.Author.Tests.{ltb-true}
-use Rattle.rules.specs.Picture.{area, filled}
+use Rattle.rules.specs.Picture.{area, tabulate, filled, zeros}
 use Rattle.rules.specs.Sums.{plusZero}
 use Rattle.rules.specs.Refusals.{Rule, Scratch, first, runRows}
 use Rattle.rules.specs.Run.{canny, runEdges, countOf, Roomy}
@@ -23,7 +23,29 @@ use Rattle.rules.proofs.Grid.{pixel-in}
 use Rattle.rules.proofs.Runs.{front, roomy}
 use Rattle.rules.proofs.Tallies.{tally-all}
 use Rattle.frame.specs.Running.{shown, ran}
-use Rattle.frame.proofs.Writing.{shownAt, rows-are}
+use Rattle.frame.proofs.Writing.{rows-are}
+
+-- ---- what is printed for an answer and a map
+
+module _ (d : Size) where
+  abbrev pub textOf : Counted × List ℕ → List ℕ
+  textOf x = cond (eqb (x .0 .refusal) 0) (edgesText d (x .0 .count) ++ rowsText d (x .1)) (refusedText (x .0 .refusal))
+
+  -- the rows show the first width * height entries alone
+  rows-same : (f : ℕ → ℕ) (a b : List ℕ) → rowsText d (filled (area d) f a) ≡ rowsText d (filled (area d) f b)
+  rows-same f a b =
+      rw (rows-are d (filled (area d) f a), rows-are d (filled (area d) f b)) (tabulate-cong (d .height * (d .width + 1)) _ _ (λ i h. go i h _ refl))
+    where
+      at : ℕ → ℕ
+      at i = i / (d .width + 1) * d .width + i % (d .width + 1)
+
+      go : (i : ℕ) → i < d .height * (d .width + 1) → (c : Bool) → ltb (i % (d .width + 1)) (d .width) ≡ c
+          → cond c (pixelText (getD (filled (area d) f a) (at i) 0)) newline ≡ cond c (pixelText (getD (filled (area d) f b) (at i) 0)) newline
+      go i h true e =
+          let line : 0 < d .width + 1 = omega arith in
+          let q = pixel-in d (i % (d .width + 1)) (i / (d .width + 1)) (ltb-true _ _ e) (div-lt-iff-lt-mul line .1 h) in
+          ap pixelText (filled-at (area d) f a _ 0 (at i) refl q ∙ sym (filled-at (area d) f b _ 0 (at i) refl q))
+      go i h false e = refl
 
 -- ---- a run
 
@@ -54,44 +76,19 @@ module _ (d : Size) (pixels : List ℕ) (taps : List Float) (t : Thresholds) whe
   pub ran-is : (out : List ℕ) → area d ≤ length out → ran d pixels taps t out ≡ outcome out
   unfolding ran
   ran-is out h =
-      any-scratch (freshScratch d) out
-      (record {
-        work = omega (arith, length-tabulate (area d) (λ i. plusZero));
-        magnitude = omega (arith, length-tabulate (area d) (λ i. plusZero));
-        gx = omega (arith, length-tabulate (area d) (λ i. pos 0));
-        gy = omega (arith, length-tabulate (area d) (λ i. pos 0));
-        blurred = omega (arith, length-tabulate {A = ℕ} (area d) (λ i. 0));
-        marks = omega (arith, length-tabulate {A = ℕ} (area d) (λ i. 0));
-        stack = omega (arith, length-tabulate {A = ℕ} (area d) (λ i. 0));
-        room = h;
-      })
-
-  -- ---- what is printed for it
-
-  abbrev pub textOf : Counted × List ℕ → List ℕ
-  textOf x = cond (eqb (x .0 .refusal) 0) (edgesText d (x .0 .count) ++ rowsText d (x .1)) (refusedText (x .0 .refusal))
-
-  -- the rows show the first width * height entries alone
-  rows-same : (f : ℕ → ℕ) (a b : List ℕ) → rowsText d (filled (area d) f a) ≡ rowsText d (filled (area d) f b)
-  rows-same f a b =
-      rows-are d (filled (area d) f a)
-      ∙ tabulate-cong (d .height * (d .width + 1)) (shownAt d (filled (area d) f a)) (shownAt d (filled (area d) f b)) (λ i h. go i h (ltb (i % (d .width + 1)) (d .width)) refl)
-      ∙ sym (rows-are d (filled (area d) f b))
+      let f = fresh plusZero in
+      let g = fresh (pos 0) in
+      let z : area d ≤ length (zeros (area d)) = fresh 0 in
+      any-scratch (freshScratch d) out (record { work = f; magnitude = f; gx = g; gy = g; blurred = z; marks = z; stack = z; room = h })
     where
-      go : (i : ℕ) → i < d .height * (d .width + 1) → (c : Bool) → ltb (i % (d .width + 1)) (d .width) ≡ c
-          → cond c (pixelText (getD (filled (area d) f a) (i / (d .width + 1) * d .width + i % (d .width + 1)) 0)) newline
-          ≡ cond c (pixelText (getD (filled (area d) f b) (i / (d .width + 1) * d .width + i % (d .width + 1)) 0)) newline
-      go i h true e =
-          let line : 0 < d .width + 1 = omega arith in
-          let q = pixel-in d (i % (d .width + 1)) (i / (d .width + 1)) (ltb-true _ _ e) (div-lt-iff-lt-mul line .1 h) in
-          ap pixelText (filled-at (area d) f a (filled (area d) f a) 0 _ refl q ∙ sym (filled-at (area d) f b (filled (area d) f b) 0 _ refl q))
-      go i h false e = refl
+      fresh : {A : Type 0} (z : A) → area d ≤ length (tabulate (area d) (λ i. z))
+      fresh z = omega (arith, length-tabulate (area d) (λ i. z))
 
-  pub text-same : (a b : List ℕ) → textOf (outcome a) ≡ textOf (outcome b)
+  pub text-same : (a b : List ℕ) → textOf d (outcome a) ≡ textOf d (outcome b)
   text-same a b = go (eqb (first rows) 0) refl
     where
-      go : (c : Bool) → eqb (first rows) 0 ≡ c → textOf (pick c (first rows) a) ≡ textOf (pick c (first rows) b)
-      go true e = ap (λ (r : List ℕ). cond (eqb (first rows) 0) (edgesText d (countOf d (runEdges d pixels taps t)) ++ r) (refusedText (first rows))) (rows-same (λ q. getD (runEdges d pixels taps t) q 0) a b)
+      go : (c : Bool) → eqb (first rows) 0 ≡ c → textOf d (pick c (first rows) a) ≡ textOf d (pick c (first rows) b)
+      go true e = rw (rows-same d (λ q. getD (runEdges d pixels taps t) q 0) a b)
       go false e = rw e
 
   -- a run counts at most its pixels

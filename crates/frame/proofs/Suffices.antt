@@ -39,10 +39,8 @@ first-below k (r ∷ rs) h p = go (r .applies) (first-below k rs h (p .1))
     go true l = p .0
     go false l = l
 
-edges-fit : (d : Size) (count : ℕ) (map : List ℕ) → Small d count → length (edgesText d count ++ rowsText d map) ≤ maxText
-edges-fit d count map s =
-    let l = lengths d count s in
-    omega (arith, length-append (edgesText d count) (rowsText d map), length-edges d count, length-rows d map, l .rows, l .width, l .height, l .counted)
+edges-fit : {d : Size} {count : ℕ} (map : List ℕ) → Small d count → length (edgesText d count ++ rowsText d map) ≤ maxText
+edges-fit {d} {count} map s = omega (arith, length-append (edgesText d count) (rowsText d map), length-edges d count, length-rows d map, lengths s)
 
 module _ (file : List ℕ) where
   abbrev d : Size
@@ -52,16 +50,16 @@ module _ (file : List ℕ) where
   rows = front d (framePixels file) (frameTaps file) (thresholdsOf file)
 
   run-fits : breach file ≡ false → length (runText file) ≤ maxText
-  run-fits e = rw (text-by file (zeros (area d))) (go (eqb (first rows) 0) refl (count-few d (framePixels file) (frameTaps file) (thresholdsOf file) (zeros (area d))))
+  run-fits e =
+      rw (text-by file (zeros (area d)))
+      (go (eqb (first rows) 0) refl (count-few d (framePixels file) (frameTaps file) (thresholdsOf file) (zeros (area d))))
     where
-      go : (b : Bool) → eqb (first rows) 0 ≡ b → pick d (framePixels file) (frameTaps file) (thresholdsOf file) b (first rows) (zeros (area d)) .0 .count ≤ area d
-          → length (textOf d (framePixels file) (frameTaps file) (thresholdsOf file) (pick d (framePixels file) (frameTaps file) (thresholdsOf file) b (first rows) (zeros (area d)))) ≤ maxText
-      go true q k =
-          let l = laid file e in
-          rw q (edges-fit d _ _ (record { wide = l .width; high = l .height; few = omega (arith, k, l .small) }))
+      go : (b : Bool) → eqb (first rows) 0 ≡ b → (let x = pick d (framePixels file) (frameTaps file) (thresholdsOf file) b (first rows) (zeros (area d)) in
+          x .0 .count ≤ area d → length (textOf d x) ≤ maxText)
+      go true q k = let l = laid file e in rw q (edges-fit _ (record { wide = l .width; high = l .height; few = omega (arith, k, l .small) }))
       go false q k = rw q (refused-fits (first rows) (first-below 100 rows (omega arith) (omega arith)))
 
-  pub suffices : length (printout file) ≤ maxText
+  suffices : length (printout file) ≤ maxText
   suffices = go (breach file) refl
     where
       go : (b : Bool) → breach file ≡ b → length (printout file) ≤ maxText
@@ -69,15 +67,17 @@ module _ (file : List ℕ) where
       go false e = rw (kept file e) (run-fits e)
 
   -- so that with as much room the printout is written, and its length returned
-  pub room-enough : (text : List ℕ) → maxText ≤ length text → answerFrame file text ≡ (length (printout file), printout file ++ drop (length (printout file)) text)
+  pub room-enough : (text : List ℕ) → maxText ≤ length text
+      → answerFrame file text ≡ (length (printout file), printout file ++ drop (length (printout file)) text)
   unfolding answerFrame
-  room-enough text h = let l : length (printout file) ≤ length text = omega (arith, suffices) in rw (le-leb (length (printout file)) (length text) l)
+  room-enough text h = rw (le-leb (length (printout file)) (length text) (omega (arith, suffices)))
 
   -- what is returned is within the text
   pub within : (text now : List ℕ) (r : ℕ) → _≡_ {A = ℕ × List ℕ} (r, now) (answerFrame file text) → r ≤ length text
   unfolding answerFrame
   within text now r e = rw (ap (λ (x : ℕ × List ℕ). x .0) e) (go (leb (length (printout file)) (length text)) refl)
     where
-      go : (b : Bool) → leb (length (printout file)) (length text) ≡ b → cond {A = ℕ × List ℕ} b (length (printout file), printout file ++ drop (length (printout file)) text) (0, text) .0 ≤ length text
+      go : (b : Bool) → leb (length (printout file)) (length text) ≡ b
+          → cond {A = ℕ × List ℕ} b (length (printout file), printout file ++ drop (length (printout file)) text) (0, text) .0 ≤ length text
       go true q = leb-true _ _ q
       go false q = omega arith

@@ -1,5 +1,5 @@
 -- Bytes stored one after another from a place of a text. Assumes nothing.
-use mathlib.Core.Path.{_≡_, refl, sym, ap, subst, _∙_}
+use mathlib.Core.Path.{_≡_, refl, ap, _∙_}
 use mathlib.Core.Bool.{Bool, true, false, cond}
 use mathlib.Core.List.{List, [], _∷_, _++_, append-assoc, append-nil}
 use Prim.Native.Nat.{ℕ, suc, _+_, _-_, _*_, _/_, _%_, _<_, _≤_}
@@ -8,7 +8,7 @@ use native.Mathlib.Numerals.{add-one}
 use native.Mathlib.Omega.{arith}
 use lib.Dec.{ltb}
 use lib.ListN.{length, getD, take, drop, set, length-append, length-take, length-drop, drop-of-length-le}
-use lib.Seq.{sets, sets-eq, take-suc, length-take-le, drop-drop}
+use lib.Seq.{sets, sets-eq, length-sets, take-suc, drop-drop}
 use borrow.Author.Tests.{le-leb, lt-leb, ltb-true}
 use borrow.Rule.Slice.PartMut.{putMid, midOf}
 use Rattle.rules.specs.Picture.{tabulate, filled}
@@ -17,44 +17,59 @@ use Rattle.rules.specs.declared.Size.{Size}
 use Rattle.rules.proofs.Fill.{length-tabulate, Filling, filling-part}
 use Rattle.rules.proofs.Grid.{row-in, column-of, row-of, part-length, part-at}
 use Rattle.frame.specs.Fitted.{fitted, Small, Rows}
-use Rattle.frame.proofs.Decimals.{few-digits, four-digits}
+use Rattle.frame.proofs.Decimals.{one-digit, more-digits, few-digits, four-digits}
 
 -- first a, then b
-pub sets-append : (a b l : List ℕ) (i : ℕ) → sets (sets l i a) (i + length a) b ≡ sets l i (a ++ b)
-sets-append [] b l i = ap (λ (k : ℕ). sets l k b) e
-  where
-    e : i + 0 ≡ i
-    e = omega arith
-sets-append (x ∷ a) b l i =
-    ap (λ (k : ℕ). sets (sets (set l i x) (suc i) a) k b) e ∙ sets-append a b (set l i x) (suc i)
-  where
-    e : i + suc (length a) ≡ suc i + length a
-    e = omega arith
+sets-append : (a b l : List ℕ) (i : ℕ) → sets (sets l i a) (i + length a) b ≡ sets l i (a ++ b)
+sets-append [] b l i = let e : i + 0 ≡ i = omega arith in rw e
+sets-append (x ∷ a) b l i = let e : i + suc (length a) ≡ suc i + length a = omega arith in rw e (sets-append a b (set l i x) (suc i))
 
--- b from where a ended, in what a left
-pub then : (a b o l r : List ℕ) (i e : ℕ) → l ≡ sets o i a → e ≡ i + length a → r ≡ sets l e b → r ≡ sets o i (a ++ b)
-then a b o l r i e p q s = s ∙ ap (λ (k : ℕ). sets l k b) q ∙ ap (λ (t : List ℕ). sets t (i + length a) b) p ∙ sets-append a b o i
+-- the text so far: the bytes a stand from place i of what was o, and e is the next place
+pub record Put (o : List ℕ) (i : ℕ) (a : List ℕ) (e : ℕ) (l : List ℕ) : Type 0 where
+  pub place : e ≡ i + length a
+  pub is : l ≡ sets o i a
+
+pub put-length : {o a l : List ℕ} {i e : ℕ} → Put o i a e l → length l ≡ length o
+put-length {o} {a} {i = i} p = ap length (p .is) ∙ length-sets o i a
+
+-- b behind them
+then : {o a b l r : List ℕ} {i e f : ℕ} → Put o i a e l → Put l e b f r → Put o i (a ++ b) f r
+then {o} {a} {b} {i = i} p q =
+    record {
+      place = omega (arith, length-append a b, p .place, q .place);
+      is = q .is ∙ rw (p .place, p .is) (sets-append a b o i);
+    }
 
 -- one byte more
-pub then-byte : (a o l : List ℕ) (i e v : ℕ) → l ≡ sets o i a → e ≡ i + length a → set l e v ≡ sets o i (a ++ (v ∷ []))
-then-byte a o l i e v p q = then a (v ∷ []) o l (set l e v) i e p q refl
+pub then-byte : {o a l : List ℕ} {i e : ℕ} (v : ℕ) → Put o i a e l → Put o i (a ++ (v ∷ [])) (e + 1) (set l e v)
+then-byte v p = then p (record { place = refl; is = refl })
+
+-- a number's last digit, alone or behind those of its tenth
+pub only-digit : {n : ℕ} (o : List ℕ) (i : ℕ) → n < 10 → Put o i (decimal n) (i + 1) (set o i (48 + n))
+only-digit {n} o i h = rw (one-digit n h) (record { place = refl; is = refl })
+
+pub last-digit : {n : ℕ} {o l : List ℕ} {i e : ℕ} → 10 ≤ n → Put o i (decimal (n / 10)) e l → Put o i (decimal n) (e + 1) (set l e (48 + n % 10))
+last-digit {n} h p = rw (more-digits n h) (then-byte (48 + n % 10) p)
 
 -- one more of a word that is copied
-pub copy-more : (word o l : List ℕ) (at i : ℕ) → i < length word → l ≡ sets o at (take i word) → set l (at + i) (getD word i 0) ≡ sets o at (take (i + 1) word)
-copy-more word o l at i h p =
-    then-byte (take i word) o l at (at + i) (getD word i 0) p (ap (λ (k : ℕ). at + k) (sym (length-take-le i word (omega arith))))
-    ∙ ap (sets o at) (sym (ap (λ (k : ℕ). take k word) (add-one i) ∙ take-suc word i 0 h))
+pub copy-more : {o l : List ℕ} (word : List ℕ) {at : ℕ} (i : ℕ) → i < length word → Put o at (take i word) (at + i) l
+    → Put o at (take (i + 1) word) (at + (i + 1)) (set l (at + i) (getD word i 0))
+copy-more word {at} i h p =
+    let e : at + (i + 1) ≡ at + i + 1 = omega arith in
+    let t : take (i + 1) word ≡ take i word ++ (getD word i 0 ∷ []) = rw add-one (take-suc word i 0 h) in
+    rw (e, t) (then-byte (getD word i 0) p)
 
 -- from the start: the bytes, then what was behind them
-pub from-start : (p o : List ℕ) → length p ≤ length o → sets o 0 p ≡ p ++ drop (length p) o
-from-start p o h = sets-eq p o 0 (omega arith) ∙ ap (λ (k : ℕ). p ++ drop k o) (zero-add (length p))
+from-start : (p o : List ℕ) → length p ≤ length o → sets o 0 p ≡ p ++ drop (length p) o
+from-start p o h = sets-eq p o 0 (omega arith) ∙ rw zero-add
 
 -- bytes that a callee wrote over a part of the text, from a to e
-pub part-sets : (p l part : List ℕ) (a e : ℕ) → e ≡ a + length p → e ≤ length l → part ≡ p ++ drop (length p) (midOf a (e - a) l) → putMid a (e - a) l part ≡ sets l a p
+part-sets : (p l part : List ℕ) (a e : ℕ) → e ≡ a + length p → e ≤ length l → part ≡ p ++ drop (length p) (midOf a (e - a) l)
+    → putMid a (e - a) l part ≡ sets l a p
 part-sets p l part a e q h m =
     let k : e - a ≡ length p = omega arith in
     let s : length (take (length p) (drop a l)) ≤ length p = simp (length-take, length-drop) (omega arith) in
-    rw (m, k, drop-of-length-le (take (length p) (drop a l)) s, append-nil, drop-drop (length p) a l) (sym (sets-eq p l a (omega arith) ∙ append-assoc (take a l) p (drop (a + length p) l)))
+    rw (m, k, drop-of-length-le (take (length p) (drop a l)) s, append-nil, drop-drop (length p) a l, sets-eq p l a (omega arith)) (simp append-assoc)
 
 -- ---- the room
 
@@ -63,8 +78,8 @@ pub unfit : (p text : List ℕ) → length text < length p → (0, text) ≡ fit
 unfit p text h = rw (lt-leb (length p) (length text) h)
 
 -- the whole written from the start
-pub fit : (p text l : List ℕ) (r : ℕ) → length p ≤ length text → r ≡ length p → l ≡ sets text 0 p → (r, l) ≡ fitted p text
-fit p text l r h e q = rw (le-leb (length p) (length text) h, e, q, from-start p text h)
+pub fit : (p text : List ℕ) {l : List ℕ} {r : ℕ} → length p ≤ length text → Put text 0 p r l → (r, l) ≡ fitted p text
+fit p text h q = let e : _≡_ {A = ℕ} (0 + length p) (length p) = omega arith in rw (le-leb (length p) (length text) h, q .place, e, q .is, from-start p text h)
 
 -- ---- the printout's parts
 
@@ -76,18 +91,10 @@ length-refused n = omega (arith, length-append (decimal n) (newline ∷ []))
 abbrev pub field : ℕ → ℕ → List ℕ
 field n after = decimal n ++ (after ∷ [])
 
--- the text so far: these bytes from the start, and the next place
-pub record Written (o a : List ℕ) (next : ℕ) (l : List ℕ) : Type 0 where
-  pub place : next ≡ length a
-  pub is : l ≡ sets o 0 a
-
 -- a field more
-pub field-more : (o a l r : List ℕ) (e next n after : ℕ) → Written o a e l → next ≡ e + (length (decimal n) + 1) → r ≡ sets l e (field n after) → Written o (a ++ field n after) next r
-field-more o a l r e next n after w p q =
-    record {
-      place = omega (arith, length-append a (field n after), length-append (decimal n) (after ∷ []), w .place);
-      is = then a (field n after) o l r 0 e (w .is) (omega (arith, w .place)) q;
-    }
+pub field-more : {o a l r : List ℕ} {i e next : ℕ} (n after : ℕ) → Put o i a e l → (next ≡ e + (length (decimal n) + 1)) × (r ≡ sets l e (field n after))
+    → Put o i (a ++ field n after) next r
+field-more n after p q = then p (record { place = q .0 ∙ simp length-append; is = q .1 })
 
 abbrev pub refusedWord : List ℕ
 refusedWord = 114 ∷ 101 ∷ 102 ∷ 117 ∷ 115 ∷ 101 ∷ 100 ∷ space ∷ []
@@ -114,8 +121,8 @@ pub record Lengths (d : Size) (count : ℕ) : Type 0 where
   pub counted : length (decimal count) ≤ 4
   pub rows : d .height * (d .width + 1) ≤ 2352
 
-pub lengths : (d : Size) (count : ℕ) → Small d count → Lengths d count
-lengths d count s =
+pub lengths : {d : Size} {count : ℕ} → Small d count → Lengths d count
+lengths {d} {count} s =
     let wide : d .width + 1 ≤ 49 = omega (arith, s .wide) in
     record {
       width = few-digits (d .width) (omega (arith, s .wide));
@@ -137,54 +144,52 @@ module _ (d : Size) (map : List ℕ) where
   rows-are = refl
 
   pub length-rows : length (rowsText d map) ≡ d .height * line
-  length-rows = ap length rows-are ∙ length-tabulate (d .height * line) shownAt
+  length-rows = rw rows-are (length-tabulate (d .height * line) shownAt)
 
-  -- place i of row y, as it was written from that row of the map
-  pub row-at : (y i : ℕ) → i < line → y * d .width + d .width ≤ length map →
-      (let row = take (y * d .width + d .width - y * d .width) (drop (y * d .width) map) in cond (ltb i (length row)) (pixelText (getD row i 0)) newline) ≡ shownAt (y * line + i)
-  row-at y i h m =
-      rw (column-of y h, row-of y h, part-length map (y * d .width) (y * d .width + d .width) (d .width) refl m) (go (ltb i (d .width)) refl)
-    where
-      go : (b : Bool) → ltb i (d .width) ≡ b → cond b (pixelText (getD (take (y * d .width + d .width - y * d .width) (drop (y * d .width) map)) i 0)) newline ≡ cond b (pixelText (getD map (y * d .width + i) 0)) newline
-      go true e = ap pixelText (part-at map (y * d .width) (y * d .width + d .width) (d .width) refl i 0 (ltb-true i (d .width) e))
-      go false e = refl
+  -- row y of the map as it is lent, and what stands at place i of its line
+  abbrev rowOf : ℕ → List ℕ
+  rowOf y = take (y * d .width + d .width - y * d .width) (drop (y * d .width) map)
 
-  -- row y stands within the map and within the rows
-  pub record RowIn (y : ℕ) : Type 0 where
+  abbrev lineOf : ℕ → ℕ → ℕ
+  lineOf y i = cond (ltb i (length (rowOf y))) (pixelText (getD (rowOf y) i 0)) newline
+
+  module _ {o : List ℕ} (y : ℕ) (p : Rows d map o) (h : y < d .height) where
+    -- row y stands within the map, and its line within the text
     pub source : y * d .width + d .width ≤ length map
-    pub target : y * line + line ≤ d .height * line
-    pub few : d .height * line ≤ 2352
+    source = omega (arith, row-in y (d .width) (d .height) h, p .whole)
 
-  pub row-in-rows : (o : List ℕ) (y : ℕ) → Rows d map o → y < d .height → RowIn y
-  row-in-rows o y p h =
-      let wide : line ≤ 49 = omega (arith, p .wide) in
-      record {
-        source = omega (arith, row-in y (d .width) (d .height) h, p .whole);
-        target = omega (arith, row-in y line (d .height) h, mul-comm line (d .height));
-        few = mul-le-mul (p .high) wide;
-      }
+    target : y * line + line ≤ d .height * line
+    target = omega (arith, row-in y line (d .height) h, mul-comm line (d .height))
 
-  -- a row more
-  pub rows-more : (o l part : List ℕ) (y : ℕ) → Rows d map o → y < d .height → Filling (d .height * line) (y * line) shownAt o l
-      → (let row = take (y * d .width + d .width - y * d .width) (drop (y * d .width) map) in part ≡ filled (length row + 1) (λ x. cond (ltb x (length row)) (pixelText (getD row x 0)) newline) (midOf (y * line) (y * line + line - y * line) l))
-      → Filling (d .height * line) ((y + 1) * line) shownAt o (putMid (y * line) (y * line + line - y * line) l part)
-  rows-more o l part y p h f q =
-      let t = row-in-rows o y p h in
-      let row = take (y * d .width + d .width - y * d .width) (drop (y * d .width) map) in
-      let n : length row ≡ d .width = part-length map (y * d .width) (y * d .width + d .width) (d .width) refl (t .source) in
-      let e : y * line + line ≡ (y + 1) * line = omega (arith, add-mul y 1 line) in
-      subst (λ (k : ℕ). Filling (d .height * line) k shownAt o (putMid (y * line) (y * line + line - y * line) l part)) e
-      (filling-part (d .height * line) (y * line) line shownAt (λ x. cond (ltb x (length row)) (pixelText (getD row x 0)) newline) o l part (p .room) (t .target) f
-      (subst (λ (m : ℕ). part ≡ filled (m + 1) (λ x. cond (ltb x (length row)) (pixelText (getD row x 0)) newline) (midOf (y * line) (y * line + line - y * line) l)) n q)
-      (λ i k. row-at y i k (t .source)))
+    pub room : (y * line + line ≤ length o) × (d .height * line ≤ 2352)
+    room = let wide : line ≤ 49 = omega (arith, p .wide) in (omega (arith, target, p .room), mul-le-mul (p .high) wide)
+
+    pub row-long : length (rowOf y) ≡ d .width
+    row-long = part-length map (y * d .width) (y * d .width + d .width) (d .width) refl source
+
+    row-at : (i : ℕ) → i < line → lineOf y i ≡ shownAt (y * line + i)
+    row-at i k = rw (column-of y k, row-of y k, row-long) (go (ltb i (d .width)) refl)
+      where
+        go : (b : Bool) → ltb i (d .width) ≡ b → cond b (pixelText (getD (rowOf y) i 0)) newline ≡ cond b (pixelText (getD map (y * d .width + i) 0)) newline
+        go true e = ap pixelText (part-at map (y * d .width) (y * d .width + d .width) (d .width) refl i 0 (ltb-true i (d .width) e))
+        go false e = refl
+
+    -- a row more
+    pub rows-more : {l part : List ℕ} → Filling (d .height * line) (y * line) shownAt o l
+        → part ≡ filled (length (rowOf y) + 1) (lineOf y) (midOf (y * line) (y * line + line - y * line) l)
+        → Filling (d .height * line) ((y + 1) * line) shownAt o (putMid (y * line) (y * line + line - y * line) l part)
+    rows-more {l} {part} f q =
+        let e : (y + 1) * line ≡ y * line + line = omega (arith, add-mul y 1 line) in
+        let mid = midOf (y * line) (y * line + line - y * line) l in
+        rw e (filling-part (p .room) target f (q ∙ ap (λ (m : ℕ). filled (m + 1) (lineOf y) mid) row-long) row-at)
 
   -- the rows behind the head, written over a part of the text
   pub head-and-rows : (count : ℕ) (o l part : List ℕ) (a n : ℕ) → n ≤ length o → n ≡ length (edgesText d count) + d .height * line → length l ≡ length o
-      → a ≡ length (edgesText d count) → l ≡ sets o 0 (edgesText d count) → part ≡ rowsText d map ++ drop (d .height * line) (midOf a (n - a) l)
+      → (a ≡ length (edgesText d count)) × (l ≡ sets o 0 (edgesText d count)) → part ≡ rowsText d map ++ drop (d .height * line) (midOf a (n - a) l)
       → (n, putMid a (n - a) l part) ≡ fitted (edgesText d count ++ rowsText d map) o
-  head-and-rows count o l part a n h e k p q m =
+  head-and-rows count o l part a n h e k p m =
       let r = length-rows in
-      let t : length (edgesText d count ++ rowsText d map) ≡ n = length-append (edgesText d count) (rowsText d map) ∙ omega arith in
-      fit (edgesText d count ++ rowsText d map) o (putMid a (n - a) l part) n (omega arith) (sym t)
-      (then (edgesText d count) (rowsText d map) o l (putMid a (n - a) l part) 0 a q (omega arith)
-      (part-sets (rowsText d map) l part a n (omega arith) (omega arith) (subst (λ (j : ℕ). part ≡ rowsText d map ++ drop j (midOf a (n - a) l)) (sym r) m)))
+      let head : Put o 0 (edgesText d count) a l = record { place = omega (arith, p .0); is = p .1 } in
+      let rows : Put l a (rowsText d map) n (putMid a (n - a) l part) =
+      record { place = omega (arith, p .0); is = part-sets (rowsText d map) l part a n (omega (arith, p .0)) (omega arith) (rw (← r) at m) } in
+      fit (edgesText d count ++ rowsText d map) o (omega (arith, length-append (edgesText d count) (rowsText d map))) (then head rows)

@@ -3,6 +3,7 @@ use rules::MAX_FRAME_LENGTH;
 use rules::MAX_FRAME_SIDE;
 use rules::Size;
 use rules::Thresholds;
+use rules::pattern::float;
 ghost use mathlib.Core.Path.{_≡_};
 ghost use Prim.Native.Nat.{_+_, _*_, _≤_, _<_};
 ghost use lib.ListN.{length};
@@ -67,17 +68,6 @@ pub(crate) fn breach(file: &[u8]) -> bool
         | ((pixels != HEADER_LENGTH + 4 * wide(file, TAP_COUNT))
             | ((length != pixels + width * height)
                 | ((length != file.len()) | (MAX_FRAME_LENGTH < file.len()))))
-}
-
-// The f32 that a pattern stands for. `from_bits` is undefined on a NaN's, so those are told by the bits and become the one NaN.
-pub fn float(bits: u32) -> f32
-    ensures { λ r. ⌜ r ≡ ofBits binary32 bits ⌝ }
-{
-    if 0x7f80_0000 < bits % 0x8000_0000 {
-        let zero = 0.0f32;
-        return zero / zero;
-    }
-    f32::from_bits(bits)
 }
 
 // The first `count` taps, as f32 values.

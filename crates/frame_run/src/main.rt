@@ -6,9 +6,6 @@ mod texts;
 
 use libc::STDIN_FILENO;
 
-// More lines than the file has.
-const MOST_LINES: usize = 100;
-
 fn main() {
     let mut text = io::large_buffer();
     let n = io::read_full(STDIN_FILENO, &mut text);
@@ -18,22 +15,20 @@ fn main() {
 
 fn lines_of(text: &[u8]) {
     let mut at = 0;
-    let mut i = 0;
-    while i < MOST_LINES {
-        line(text, &mut at);
-        i += 1;
+    while at < text.len() {
+        let case = cases::case(text, &mut at);
+        line(&case);
     }
 }
 
 // A line's first number says what is looked at: 1 the text, 2 its length in a room, 3 how many shorter lengths break the layout.
-fn line(text: &[u8], at: &mut usize) {
-    let case = cases::case(text, at);
-    let file = building::file_of(&case);
+fn line(case: &[u32; 80]) {
+    let file = building::file_of(case);
     let kind = case[0];
     match kind {
-        1 => texts::printed(&case, &file),
-        2 => texts::in_room(&case, &file),
-        3 => texts::shorter(&case, &file),
+        1 => texts::printed(case, &file),
+        2 => texts::in_room(case, &file),
+        3 => texts::shorter(case, &file),
         _ => {}
     }
 }

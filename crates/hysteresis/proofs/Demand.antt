@@ -4,13 +4,14 @@ use native.Mathlib.Decide.{ℕ-discrete}
 use native.Mathlib.Nat.{add-assoc}
 use native.Mathlib.Omega.{arith}
 use mathlib.Core.Path.{_≡_, refl, sym, ap, _∙_}
+use mathlib.Core.Logic.{_≢_}
 use mathlib.Core.Bool.{Bool, true, false, not, cond}
 use mathlib.Core.List.{List, [], _∷_}
 use lib.Dec.{T, eqb, eqb→eq}
 use lib.ListN.{length, getD}
 use lib.Ieee.{Float, nan}
 use lib.Ieee.Scale.{finite}
-use borrow.Author.Tests.{eqb-true, eqb-false, eq-eqb, ne-eqb, le-ltb, not-false}
+use borrow.Author.Tests.{eqb-true, eqb-false, eq-eqb, ne-eqb, not-false}
 use Rattle.rules.specs.Picture.{area, anyBelow, tally}
 use Rattle.rules.specs.Walk.{State, state, mark, has, count, last, pop, look, visit, looks, taken, sliced, takes, unusable, atLeast, edge}
 use Rattle.rules.specs.Refusals.{first, badThreshold, startRows, sliceRows, mapRows}
@@ -24,7 +25,7 @@ use Rattle.rules.specs.declared.Thresholds.{Thresholds}
 use Rattle.rules.specs.declared.Started.{Started}
 use Rattle.rules.proofs.Bools.{true-is, is-true, neither}
 use Rattle.rules.proofs.Fill.{filled-at}
-use Rattle.rules.proofs.Rows.{Sides}
+use Rattle.rules.proofs.Rows.{Sides, rows}
 use Rattle.rules.proofs.Tallies.{tally-all, tally-le, tally-less, tally-zero}
 use Rattle.rules.proofs.Paths.{way-in, joined-tells, joined-count}
 use Rattle.starting.proofs.Numbers.{Startable, startable}
@@ -47,7 +48,10 @@ module _ (d : Size) (hi lo : ℕ → Bool) where
 
   -- ---- one state
 
-  module _ (s : State) (h : Inv d hi lo s) where
+  tells : Tells d hi lo (joined d hi lo)
+  tells = joined-tells d hi lo
+
+  module _ {s : State} (h : Inv d hi lo s) where
     -- with nothing pending a mark from 2 on is 3
     no-twos : s .pending ≡ 0 → (r : ℕ) → r < area d → 2 ≤ mark s r → mark s r ≡ 3
     no-twos p r l z =
@@ -55,18 +59,15 @@ module _ (d : Size) (hi lo : ℕ → Bool) where
         omega (arith, h .core .right r l .small)
 
     -- and whatever a way reaches from a strong pixel is finished
-    reached : s .pending ≡ 0 → (q : ℕ) → T (hi q) → {r : ℕ} → Way d lo q r → mark s r ≡ 3
-    reached p q t (here l e) = no-twos p q l (h .core .right q l .high t)
-    reached p q t (on {r = r} {t = u} w k e) = no-twos p u (k .to) (h .closed r u k (reached p q t w) e)
+    reached : s .pending ≡ 0 → {q r : ℕ} → T (hi q) → Way d lo q r → mark s r ≡ 3
+    reached p {q} t (here l e) = no-twos p q l (h .core .right q l .high t)
+    reached p t (on {r = r} {t = u} w k e) = no-twos p u (k .to) (h .closed r u k (reached p t w) e)
 
     ends : s .pending ≡ 0 → (q : ℕ) → Joined d hi lo q → mark s q ≡ 3
-    ends p q j = reached p (j .seed) (j .strong) (j .way)
+    ends p q j = reached p (j .strong) (j .way)
 
     three-joined : (q : ℕ) → q < area d → mark s q ≡ 3 → Joined d hi lo q
     three-joined q l e = h .core .right q l .seen (omega arith)
-
-    tells : Tells d hi lo (joined d hi lo)
-    tells = joined-tells d hi lo
 
     three-told : (q : ℕ) → q < area d → T (has 3 (s .marks) q) → T (joined d hi lo q)
     three-told q l t = tells .complete q (three-joined q l (eqb→eq _ _ t))
@@ -75,8 +76,8 @@ module _ (d : Size) (hi lo : ℕ → Bool) where
     fewer : 0 < s .pending → done s < N
     fewer p =
         rw (joined-count d hi lo)
-        (tally-less (has 3 (s .marks)) (joined d hi lo) (last s) (ne-eqb (mark s (last s)) 3 (λ e. let t = last-two d hi lo s (h .core) p in omega arith))
-        (true-is _ (tells .complete (last s) (last-joined d hi lo s (h .core) p))) (area d) three-told (last-in d hi lo s (h .core) p))
+        (tally-less (has 3 (s .marks)) (joined d hi lo) (last s) (ne-eqb (mark s (last s)) 3 (λ e. omega (arith, last-two (h .core) p)))
+        (true-is _ (tells .complete (last s) (last-joined (h .core) p))) (area d) three-told (last-in (h .core) p))
 
     -- at the end N are
     exactly : s .pending ≡ 0 → done s ≡ N
@@ -88,41 +89,27 @@ module _ (d : Size) (hi lo : ℕ → Bool) where
           tally-le (joined d hi lo) (has 3 (s .marks)) (area d) (λ q l t. is-true (eq-eqb _ _ (ends p q (tells .sound q l t)))),
         )
 
-    over : done s ≡ N → Dec (s .pending ≡ 0) → s .pending ≡ 0
-    over e (yes z) = z
-    over e (no z) = absurd (let a = fewer (omega arith) in omega arith)
+    over : done s ≡ N → s .pending ≡ 0
+    over e = go (ℕ-discrete (s .pending) 0)
+      where
+        go : Dec (s .pending ≡ 0) → s .pending ≡ 0
+        go (yes z) = z
+        go (no z) = absurd (omega (arith, fewer (omega arith)))
 
     -- ---- what the next call is answered
 
     usable : unusable d s ≡ false
     usable =
-        let r = room d hi lo (area d) s (h .core) in
+        let r = room (h .core) in
         usable-of d s (record { pending = omega arith; held = h .core .inside; marks = λ q l. h .core .right q l .small; room = r })
 
     module _ (sides : Sides d) where
       next : (k : ℕ) → 0 < k → first (sliceRows d k s) ≡ 0
-      next k p =
-          simp (
-            le-ltb _ _ (sides .width),
-            le-ltb _ _ (sides .height),
-            le-ltb _ _ (h .core .marks-long),
-            le-ltb _ _ (h .core .stack-long),
-            ne-eqb k 0 (omega arith),
-            usable,
-          )
+      next k p = let u = usable in let n : k ≢ 0 = omega arith in sym (search rows depth 9)
 
       module _ (p : s .pending ≡ 0) (out : List ℕ) (l : area d ≤ length out) where
         map-given : first (mapRows d s out) ≡ 0
-        map-given =
-            simp (
-              le-ltb _ _ (sides .width),
-              le-ltb _ _ (sides .height),
-              le-ltb _ _ (h .core .marks-long),
-              le-ltb _ _ (h .core .stack-long),
-              le-ltb _ _ l,
-              usable,
-              eq-eqb _ _ p,
-            )
+        map-given = let u = usable in sym (search rows depth 9)
 
         map-at : (q : ℕ) → q < area d → getD (Calls.map (walkOf d (s .pending)) (s .marks) (s .stack) out .1) q 0 ≡ edge (mark s q)
         unfolding Calls.map
@@ -133,11 +120,11 @@ module _ (d : Size) (hi lo : ℕ → Bool) where
       progress b e = record {
         finished = e;
         all-joined = three-joined;
-        ended = (exactly, λ f. over f (ℕ-discrete (s .pending) 0));
+        ended = (exactly, over);
         usable = usable;
         next = next;
         map-given = map-given;
-        map-on = λ p out l q j. map-at p out l q (way-in d lo (j .way)) ∙ ap (λ (m : ℕ). edge m) (ends p q j);
+        map-on = λ p out l q j. map-at p out l q (way-in d lo (j .way)) ∙ ap edge (ends p q j);
         map-off = λ p out l q k n. map-at p out l q k ∙ ap (λ (b : Bool). cond b 255 0) (ne-eqb (mark s q) 3 (λ z. n (three-joined q k z)));
       }
 
@@ -156,13 +143,13 @@ module _ (d : Size) (hi lo : ℕ → Bool) where
       go : (c : Bool) → eqb (s .pending) 0 ≡ c
           → (Inv d hi lo (taken d s) → done (taken d s) ≡ min N (k + 1) → Sliced (k + 1) b (taken d s) (sliced d b (taken d s)) (takes d b (taken d s)))
           → Sliced k (suc b) s (cond c s (sliced d b (taken d s))) (cond c 0 (suc (takes d b (taken d s))))
-      go true z ih = let a = exactly s h (eqb-true (s .pending) 0 z) in record { inv = h; finished = omega arith; made-is = omega arith }
+      go true z ih = let a = exactly h (eqb-true (s .pending) 0 z) in record { inv = h; finished = omega arith; made-is = omega arith }
       go false z ih =
           let n = eqb-false (s .pending) 0 z in
           let p : 0 < s .pending = omega arith in
-          let f = fewer s h p in
-          let t = take-finishes d hi lo s h p in
-          let a = ih (take-keeps d hi lo s h p) (omega arith) in
+          let f = fewer h p in
+          let t = take-finishes d hi lo h p in
+          let a = ih (take-keeps d hi lo h p) (omega arith) in
           record { inv = a .inv; finished = omega (arith, a .finished); made-is = omega (arith, a .made-is) }
 
   -- a call of slice: accepted, or refused and as if its budget were 0
@@ -224,7 +211,8 @@ module _ (d : Size) (t : Thresholds) (magnitudes : List Float) (marks stack : Li
   is-finite x b = not-false _ (neither (not (finite x)) _ b .0)
 
   above : (q : ℕ) → T (hi q) → T (lo q)
-  above q z = is-true (lower (t .low) (t .high) (getD magnitudes q nan) (is-finite (t .low) (ok .low)) (is-finite (t .high) (ok .high)) (ok .ordered) (true-is _ z))
+  above q z =
+      is-true (lower (t .low) (t .high) (getD magnitudes q nan) (is-finite (t .low) (ok .low)) (is-finite (t .high) (ok .high)) (ok .ordered) (true-is _ z))
 
   after : (calls : List Call) → After d hi lo calls begun 0
   unfolding afterStart
@@ -232,23 +220,17 @@ module _ (d : Size) (t : Thresholds) (magnitudes : List Float) (marks stack : Li
       let h = start-holds d hi lo above marks stack (ok .marks-long) (ok .stack-long) in
       calls-keep d hi lo calls begun 0 (h .0) (omega (arith, h .1))
 
-  progress-after : (calls : List Call) → let h = heldAtStart d t magnitudes marks stack in Progress d hi lo (joinedCount d hi lo) (spent calls h) (afterAll calls h)
-  progress-after calls = let a = after calls in rw (held-is, a .is) (progress d hi lo (a .now) (a .inv) (ok .sides) _ (omega (arith, a .finished)))
-
   -- a slice with the budget width * height + 1 ends the walk, and then mark 3 tells exactly the joined pixels, whatever the buffers held
   pub end-tells : let s = sliced d (area d + 1) begun in (s .pending ≡ 0) × Tells d hi lo (has 3 (s .marks))
   unfolding afterStart
   end-tells =
       let h = start-holds d hi lo above marks stack (ok .marks-long) (ok .stack-long) in
       let a = slice-keeps d hi lo (area d + 1) begun 0 (h .0) (omega (arith, h .1)) in
-      let s = sliced d (area d + 1) begun in
-      let n = tally-all (joined d hi lo) (area d) in
-      let c = joined-count d hi lo in
-      let p = over d hi lo s (a .inv) (omega (arith, a .finished)) (ℕ-discrete (s .pending) 0) in (
+      let p = over d hi lo (a .inv) (omega (arith, a .finished, tally-all (joined d hi lo) (area d), joined-count d hi lo)) in (
         p,
         record {
-          sound = λ q l z. three-joined d hi lo s (a .inv) q l (eqb→eq _ _ z);
-          complete = λ q j. is-true (eq-eqb _ _ (ends d hi lo s (a .inv) p q j));
+          sound = λ q l z. three-joined d hi lo (a .inv) q l (eqb→eq _ _ z);
+          complete = λ q j. is-true (eq-eqb _ _ (ends d hi lo (a .inv) p q j));
         },
       )
 
@@ -264,7 +246,9 @@ module _ (d : Size) (t : Thresholds) (magnitudes : List Float) (marks stack : Li
 
 -- DEMAND 3 holds of every start
 pub demand-3 : (d : Size) (t : Thresholds) (magnitudes : List Float) (marks stack : List ℕ) → Demand-3 d t magnitudes marks stack
-demand-3 d t magnitudes marks stack e calls = progress-after d t magnitudes marks stack e calls
+demand-3 d t magnitudes marks stack e calls =
+    let a = after d t magnitudes marks stack e calls in
+    rw (held-is d t magnitudes marks stack e, a .is) (progress d _ _ (a .inv) (ok d t magnitudes marks stack e .sides) _ (omega (arith, a .finished)))
 
 -- ---- the takes on every state, forged ones included
 
@@ -279,7 +263,8 @@ unfolding sliced takes again
 takes-are-steps d zero s = refl
 takes-are-steps d (suc b) s = go (eqb (s .pending) 0) (takes-are-steps d b (taken d s))
   where
-    go : (c : Bool) → sliced d b (taken d s) ≡ again d (takes d b (taken d s)) (taken d s) → cond c s (sliced d b (taken d s)) ≡ again d (cond c 0 (suc (takes d b (taken d s)))) s
+    go : (c : Bool) → sliced d b (taken d s) ≡ again d (takes d b (taken d s)) (taken d s)
+        → cond c s (sliced d b (taken d s)) ≡ again d (cond c 0 (suc (takes d b (taken d s)))) s
     go true ih = refl
     go false ih = ih
 

@@ -1,25 +1,22 @@
--- What an accepted number says, and what each call answers by its number. Assumes nothing.
+-- What an accepted number says. Assumes nothing.
 use Prim.Native.Nat.{ℕ, _+_, _*_, _≤_, _<_}
 use mathlib.Core.Path.{_≡_}
 use mathlib.Core.Bool.{false}
 use mathlib.Core.List.{List}
 use lib.Dec.{leb, ltb}
 use lib.ListN.{length, getD}
-use borrow.Author.Tests.{ltb-false, leb-false, lt-leb, le-ltb, ne-eqb}
+use borrow.Author.Tests.{ltb-false, leb-false, lt-leb, le-ltb}
 use Rattle.rules.specs.Limits.{maxSide}
 use Rattle.rules.specs.Picture.{area, anyBelow}
-use Rattle.rules.specs.Walk.{State, state, mark, count, unusable, sliced, takes, mapped}
+use Rattle.rules.specs.Walk.{State, mark, count, unusable}
 use Rattle.rules.specs.Refusals.{first, sliceRows, mapRows}
-use Rattle.rules.specs.Calls as Calls
-use Rattle.rules.specs.Calls.{walkOf, sidesOf, afterSlice, sliceTakes}
 use Rattle.rules.specs.declared.Size.{Size}
-use Rattle.rules.specs.declared.Walk.{Walk}
-use Rattle.rules.specs.declared.Sliced.{Sliced}
-use Rattle.rules.specs.declared.Mapped.{Mapped}
 use Rattle.rules.proofs.Bools.{neither}
 use Rattle.rules.proofs.Tests.{any-none, none-any}
 use Rattle.rules.proofs.Rows.{off, side-off, room-off}
 use Rattle.hysteresis.specs.Fit.{Fit}
+
+-- the search down a table, passed on to the whole run, whose crate has a module of the name `refusals`
 
 -- ---- row 9 as facts
 
@@ -29,7 +26,7 @@ pub record Usable (d : Size) (s : State) : Type 0 where
   pub marks : (q : ℕ) → q < area d → mark s q ≤ 3
   pub room : s .pending + count 1 (s .marks) (area d) ≤ area d
 
-pub usable-facts : (d : Size) (s : State) → unusable d s ≡ false → Usable d s
+usable-facts : (d : Size) (s : State) → unusable d s ≡ false → Usable d s
 unfolding unusable
 usable-facts d s e =
     let x = neither (ltb (area d) (s .pending)) _ e in
@@ -58,7 +55,13 @@ pub slice-fit : (d : Size) (b : ℕ) (s : State) → first (sliceRows d b s) ≡
 slice-fit d b s e =
     let p = off (sliceRows d b s) tt e in
     let u = usable-facts d s (p .1 .1 .1 .1 .0) in
-    record { small = side-off d (p .0) .small; marks-long = room-off d (s .marks) (p .1 .0); stack-long = room-off d (s .stack) (p .1 .1 .0); room = u .room; held = u .held }
+    record {
+      small = side-off d (p .0) .small;
+      marks-long = room-off d (s .marks) (p .1 .0);
+      stack-long = room-off d (s .stack) (p .1 .1 .0);
+      room = u .room;
+      held = u .held;
+    }
 
 pub record Mappable (d : Size) (s : State) (out : List ℕ) : Type 0 where
   pub small : area d ≤ maxSide * maxSide
@@ -69,24 +72,3 @@ pub mappable : (d : Size) (s : State) (out : List ℕ) → first (mapRows d s ou
 mappable d s out e =
     let p = off (mapRows d s out) tt e in
     record { small = side-off d (p .0) .small; marks-long = room-off d (s .marks) (p .1 .0); out-long = room-off d out (p .1 .1 .1 .0) }
-
--- ---- the answers: k is the number that the code worked out
-
-module _ (w : Walk) (b : ℕ) (m s : List ℕ) (k : ℕ) (e : k ≡ first (sliceRows (sidesOf w) b (state m s (w .pending)))) where
-  pub slice-refused : (k ≡ 0 → ⊥) → _≡_ {A = Sliced × (List ℕ × List ℕ)} (record { refusal = k; takes = 0; walk = w }, (m, s)) (Calls.slice w b m s)
-  unfolding Calls.slice afterSlice sliceTakes
-  slice-refused n = rw (← e, ne-eqb k 0 n)
-
-  pub slice-made : (m′ s′ : List ℕ) (p n : ℕ) → k ≡ 0 → state m′ s′ p ≡ sliced (sidesOf w) b (state m s (w .pending)) → n ≡ takes (sidesOf w) b (state m s (w .pending))
-      → _≡_ {A = Sliced × (List ℕ × List ℕ)} (record { refusal = 0; takes = n; walk = walkOf (sidesOf w) p }, (m′, s′)) (Calls.slice w b m s)
-  unfolding Calls.slice afterSlice sliceTakes
-  slice-made m′ s′ p n z f g = rw (← e, z, ← f, g)
-
-module _ (w : Walk) (m s o : List ℕ) (k : ℕ) (e : k ≡ first (mapRows (sidesOf w) (state m s (w .pending)) o)) where
-  pub map-refused : (k ≡ 0 → ⊥) → _≡_ {A = Mapped × List ℕ} (record { refusal = k; walk = w }, o) (Calls.map w m s o)
-  unfolding Calls.map
-  map-refused n = rw (← e, ne-eqb k 0 n)
-
-  pub map-made : (o′ : List ℕ) → k ≡ 0 → o′ ≡ mapped (area (sidesOf w)) m o → _≡_ {A = Mapped × List ℕ} (record { refusal = 0; walk = w }, o′) (Calls.map w m s o)
-  unfolding Calls.map
-  map-made o′ z f = rw (← e, z, f)

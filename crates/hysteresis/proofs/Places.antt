@@ -26,10 +26,10 @@ within d nx ny e =
     let c = both (leb 1 ny) _ (b .1) in
     record { left = leb-true _ _ (a .0); right = leb-true _ _ (b .0); top = leb-true _ _ (c .0); bottom = leb-true _ _ (c .1) }
 
-pub inside-of : (d : Size) (nx ny : ℕ) → Within d nx ny → inside d nx ny ≡ true
-inside-of d nx ny w = simp (le-leb _ _ (w .left), le-leb _ _ (w .right), le-leb _ _ (w .top), le-leb _ _ (w .bottom))
+pub inside-of : {d : Size} {nx ny : ℕ} → Within d nx ny → inside d nx ny ≡ true
+inside-of w = simp (le-leb _ _ (w .left), le-leb _ _ (w .right), le-leb _ _ (w .top), le-leb _ _ (w .bottom))
 
-module _ (d : Size) (nx ny : ℕ) (h : Within d nx ny) where
+module _ {d : Size} {nx ny : ℕ} (h : Within d nx ny) where
   column : nx - 1 < d .width
   column = omega arith
 
@@ -52,9 +52,9 @@ rowAt d q k = q / d .width + k / 3
 -- where it is in the picture it touches q
 pub touch-place : (d : Size) (q k : ℕ) → q < area d → k < 9 → Within d (colAt d q k) (rowAt d q k) → Touch d q (place d (colAt d q k) (rowAt d q k))
 touch-place d q k l k9 h =
-    let a = place-column d _ _ h in
-    let b = place-row d _ _ h in
-    record { from = l; to = place-in d _ _ h; columns = omega arith; rows = omega arith }
+    let a = place-column h in
+    let b = place-row h in
+    record { from = l; to = place-in h; columns = omega arith; rows = omega arith }
 
 -- and what touches q is one of the nine
 pub record Nth (d : Size) (q r : ℕ) : Type 0 where
@@ -67,10 +67,6 @@ pub nth : (d : Size) (q r : ℕ) → Touch d q r → Nth d q r
 nth d q r t =
     let w : ℕ = d .width in
     let k : ℕ = (r / w + 1 - q / w) * 3 + (r % w + 1 - q % w) in
-    let c0 = t .columns .0 in
-    let c1 = t .columns .1 in
-    let r0 = t .rows .0 in
-    let r1 = t .rows .1 in
     let ex : q % w + k % 3 ≡ r % w + 1 = omega arith in
     let ey : q / w + k / 3 ≡ r / w + 1 = omega arith in
     let x = column-in d r (t .to) in
@@ -78,6 +74,6 @@ nth d q r t =
     record {
       k = k;
       nine = omega arith;
-      in-picture = record { left = omega arith; right = omega arith; top = omega arith; bottom = omega arith };
+      in-picture = omega arith;
       is = ap₂ (λ (a b : ℕ). (a - 1) * w + (b - 1)) ey ex ∙ ap₂ (λ (a b : ℕ). a * w + b) (omega arith) (omega arith) ∙ pixel-of d r (t .to);
     }

@@ -2,7 +2,7 @@
 use Prim.Native.Nat.{ℕ, zero, suc, _+_, _/_, _%_, _≤_, _<_}
 use native.Mathlib.Nat.{add-zero}
 use native.Mathlib.Omega.{arith}
-use mathlib.Core.Path.{_≡_, refl, ap}
+use mathlib.Core.Path.{_≡_, refl}
 use mathlib.Core.Bool.{Bool, true, false, cond}
 use borrow.Author.Tests.{eqb-true}
 use Rattle.rules.specs.Walk.{State, mark, has, push, look, visit, looks, inside, place}
@@ -10,9 +10,9 @@ use Rattle.rules.specs.declared.Size.{Size}
 use Rattle.hysteresis.specs.Around.{row}
 use Rattle.hysteresis.proofs.Places.{Within, within, inside-of, colAt, rowAt}
 
-pub visit-in : (d : Size) (nx ny : ℕ) (s : State) → Within d nx ny → visit d nx ny s ≡ look (place d nx ny) s
+pub visit-in : {d : Size} {nx ny : ℕ} (s : State) → Within d nx ny → visit d nx ny s ≡ look (place d nx ny) s
 unfolding visit
-visit-in d nx ny s w = ap (λ (b : Bool). cond b (look (place d nx ny) s) s) (inside-of d nx ny w)
+visit-in s w = rw (inside-of w)
 
 pub visit-out : (d : Size) (nx ny : ℕ) (s : State) → (Within d nx ny → ⊥) → visit d nx ny s ≡ s
 unfolding visit
@@ -46,8 +46,8 @@ module _ (d : Size) (P : State → Type 0) (Q : ℕ → Type 0) (grow : (s : Sta
       go true e = look-keeps (place d nx ny) (q (within d nx ny e)) s h
       go false e = h
 
-  pub looks-keep : (q n : ℕ) → ((k : ℕ) → k < n → Within d (colAt d q k) (rowAt d q k) → Q (place d (colAt d q k) (rowAt d q k)))
-      → (s : State) → P s → (k : ℕ) → k ≤ n → P (looks d q k s)
+  pub looks-keep : (q : ℕ) → ((k : ℕ) → k < 9 → Within d (colAt d q k) (rowAt d q k) → Q (place d (colAt d q k) (rowAt d q k)))
+      → (s : State) → P s → (k : ℕ) → k ≤ 9 → P (looks d q k s)
   unfolding looks
-  looks-keep q n f s h zero l = h
-  looks-keep q n f s h (suc k) l = visit-keeps (colAt d q k) (rowAt d q k) (f k l) (looks d q k s) (looks-keep q n f s h k (omega arith))
+  looks-keep q f s h zero l = h
+  looks-keep q f s h (suc k) l = visit-keeps (colAt d q k) (rowAt d q k) (f k l) (looks d q k s) (looks-keep q f s h k (omega arith))

@@ -8,9 +8,6 @@ mod walks;
 
 use libc::STDIN_FILENO;
 
-// More lines than the file has.
-const MOST_LINES: usize = 100;
-
 fn main() {
     let mut text = io::large_buffer();
     let n = io::read_full(STDIN_FILENO, &mut text);
@@ -19,22 +16,20 @@ fn main() {
 
 fn lines_of(text: &[u8]) {
     let mut at = 0;
-    let mut i = 0;
-    while i < MOST_LINES {
-        line(text, &mut at);
-        i += 1;
+    while at < text.len() {
+        let case = cases::case(text, &mut at);
+        line(&case);
     }
 }
 
 // A line's first number says what its case is of.
-fn line(text: &[u8], at: &mut usize) {
-    let case = cases::case(text, at);
+fn line(case: &[u32; 80]) {
     let kind = case[0];
     match kind {
-        1 => starts::run(&case),
-        2 => states::run(&case),
-        3 => walks::run(&case),
-        4 => sizes::run(&case),
+        1 => starts::run(case),
+        2 => states::run(case),
+        3 => walks::run(case),
+        4 => sizes::run(case),
         _ => {}
     }
 }

@@ -3,11 +3,11 @@ use crate::kept::marks_are;
 use crate::kept::places_are;
 use cases::at_most;
 use cases::count;
-use cases::float;
 use rules::Size;
 use rules::Started;
 use rules::Thresholds;
 use rules::Walk;
+use rules::pattern::float;
 
 // The case: the sides, how many magnitudes there are (all 5), low and high, how many marks and how many places, and the number.
 pub(crate) fn run(case: &[u32; 80]) {

@@ -1,12 +1,12 @@
 // Walks over three by three pixels that are accepted, in three slices. The buffers have an entry more than the picture.
 use crate::kept::finished;
 use cases::count;
-use cases::float;
 use cases::wide;
 use rules::Size;
 use rules::Started;
 use rules::Thresholds;
 use rules::Walk;
+use rules::pattern::float;
 
 // The case: low and high at 1 and 2, the magnitudes from 3 on, the map from 12 and what is pending after the start at 22. From 23 on the
 // budget, the takes and the marks that are 3, of each slice. At 32 the number of a map request after the first slice, and from 33 on the

@@ -2,7 +2,6 @@
 -- answer of several numbers is written to lent ones, which a refusal leaves as they were.
 use Prim.Native.Nat.{ℕ}
 use mathlib.Core.Bool.{cond}
-use mathlib.Core.List.{List}
 use mathlib.Core.Option.{Option, some, none}
 use lib.Dec.{eqb, ltb}
 use lib.Ieee.{Float}

@@ -49,15 +49,17 @@ belows f n v = tally (λ j. ltb (f j) v) n
 abbrev pub countedBelow : List ℕ → ℕ → ℕ
 countedBelow counts v = sumOf (λ u. getD counts u 0) v
 
--- the counts with f 0, .., f (n - 1) counted in
-unfoldable pub putAll : List ℕ → (ℕ → ℕ) → ℕ → List ℕ
-putAll counts f zero = counts
-putAll counts f (suc n) = set (putAll counts f n) (f n) (getD (putAll counts f n) (f n) 0 + 1)
+-- the counts of f 0, .., f (n - 1) changed by g, one after another
+unfoldable pub changeAll : (ℕ → ℕ) → List ℕ → (ℕ → ℕ) → ℕ → List ℕ
+changeAll g counts f zero = counts
+changeAll g counts f (suc n) = set (changeAll g counts f n) (f n) (g (getD (changeAll g counts f n) (f n) 0))
 
--- and counted out
-unfoldable pub takeAll : List ℕ → (ℕ → ℕ) → ℕ → List ℕ
-takeAll counts f zero = counts
-takeAll counts f (suc n) = set (takeAll counts f n) (f n) (getD (takeAll counts f n) (f n) 0 - 1)
+-- f 0, .., f (n - 1) counted in, and counted out
+abbrev pub putAll : List ℕ → (ℕ → ℕ) → ℕ → List ℕ
+putAll = changeAll (λ c. c + 1)
+
+abbrev pub takeAll : List ℕ → (ℕ → ℕ) → ℕ → List ℕ
+takeAll = changeAll (λ c. c - 1)
 
 -- 256 counts, each at most `most`
 pub record Counts (counts : List ℕ) (most : ℕ) : Type 0 where

@@ -26,42 +26,44 @@ stored z h = toZ-ofZ w16 z (record { sfits = h })
 abbrev pub term : List ℤ → List ℕ → ℕ → ℤ
 term table nine j = getD table j (pos 0) *ℤ pos (getD nine j 0)
 
-module _ (table : List ℤ) (nine : List ℕ) (small : Weights table) (byte : (i : ℕ) → getD nine i 0 < 256) where
+-- a table of small weights, and nine bytes
+pub record Lent (table : List ℤ) (nine : List ℕ) : Type 0 where
+  pub small : Weights table
+  pub byte : (i : ℕ) → getD nine i 0 < 256
+
+module _ {table : List ℤ} {nine : List ℕ} (k : Lent table nine) where
   term-size : (j : ℕ) → natAbs (term table nine j) ≤ 510
   term-size j =
-      let l : getD nine j 0 ≤ 255 = omega (arith, byte j) in
-      omega (arith, abs-mul (getD table j (pos 0)) (pos (getD nine j 0)), mul-le-mul (small .small j) l)
+      let l : getD nine j 0 ≤ 255 = omega (arith, k .byte j) in
+      omega (arith, abs-mul (getD table j (pos 0)) (pos (getD nine j 0)), mul-le-mul (k .small .small j) l)
 
   pub sum-within : (n : ℕ) → natAbs (sumZ (term table nine) n) ≤ 510 * n
   sum-within n = sum-size (term table nine) 510 n term-size
 
   -- as the code multiplies and adds
-  module _ (j : ℕ) where
-    abbrev product : ℤ
-    product = toZ w16 (ofZ w16 (getD table j (pos 0))) *ℤ toZ w16 (getD nine j 0)
+  abbrev product : ℕ → ℤ
+  product j = toZ w16 (ofZ w16 (getD table j (pos 0))) *ℤ toZ w16 (getD nine j 0)
 
-    pub byte-fits : SFits w16 (pos (getD nine j 0))
-    byte-fits = sfits w16 (pos (getD nine j 0)) (omega (arith, byte j))
+  pub byte-fits : (j : ℕ) → SFits w16 (pos (getD nine j 0))
+  byte-fits j = sfits w16 (pos (getD nine j 0)) (omega (arith, k .byte j))
 
-    product-is : product ≡ term table nine j
-    product-is =
-        let n : natAbs (getD table j (pos 0)) < 2 ^ 15 = omega (arith, small .small j) in
-        let l : getD nine j 0 < 2 ^ 15 = omega (arith, byte j) in
-        rw (back w16 (getD table j (pos 0)) n, toZ-pos w16 (getD nine j 0) l)
+  product-is : (j : ℕ) → product j ≡ term table nine j
+  product-is j =
+      let l : getD nine j 0 < 2 ^ 15 = omega (arith, k .byte j) in
+      rw (back w16 (getD table j (pos 0)) (omega (arith, k .small .small j)), toZ-pos w16 (getD nine j 0) l)
 
-    pub product-fits : SFits w16 product
-    product-fits = rw product-is (sfits w16 (term table nine j) (omega (arith, term-size j)))
+  pub product-fits : (j : ℕ) → SFits w16 (product j)
+  product-fits j = rw (product-is j) (sfits w16 (term table nine j) (omega (arith, term-size j)))
 
-    module _ (bits : ℕ) (l : j < 9) (e : bits ≡ ofZ w16 (sumZ (term table nine) j)) where
-      pub sum-is : toZ w16 bits +ℤ toZ w16 (ofZ w16 product) ≡ sumZ (term table nine) (j + 1)
-      unfolding sumZ
-      sum-is =
-          let f : natAbs (sumZ (term table nine) j) < 2 ^ 15 = omega (arith, sum-within j) in
-          let g : natAbs (term table nine j) < 2 ^ 15 = omega (arith, term-size j) in
-          rw (e, back w16 (sumZ (term table nine) j) f, product-is, back w16 (term table nine j) g, add-one)
+  module _ {j bits : ℕ} (l : j < 9) (e : bits ≡ ofZ w16 (sumZ (term table nine) j)) where
+    pub sum-is : toZ w16 bits +ℤ toZ w16 (ofZ w16 (product j)) ≡ sumZ (term table nine) (j + 1)
+    unfolding sumZ
+    sum-is =
+        let f = back w16 (sumZ (term table nine) j) (omega (arith, sum-within j)) in
+        rw (e, f, product-is j, back w16 (term table nine j) (omega (arith, term-size j)), add-one)
 
-      pub sum-fits : SFits w16 (toZ w16 bits +ℤ toZ w16 (ofZ w16 product))
-      sum-fits = rw sum-is (sfits w16 (sumZ (term table nine) (j + 1)) (omega (arith, sum-within (j + 1))))
+    pub sum-fits : SFits w16 (toZ w16 bits +ℤ toZ w16 (ofZ w16 (product j)))
+    sum-fits = rw sum-is (sfits w16 (sumZ (term table nine) (j + 1)) (omega (arith, sum-within (j + 1))))
 
 -- ---- a table that the checker can compute has small weights: one test
 

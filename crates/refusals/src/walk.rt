@@ -14,13 +14,14 @@ use rules::Size;
 use rules::Thresholds;
 use rules::table::bad_threshold;
 use rules::table::side_over;
+use scratch::count_of;
 ghost use mathlib.Core.Path.{_≡_};
 ghost use Prim.Native.Nat.{_*_, _≤_};
 ghost use lib.Dec.{leb, ltb};
 ghost use lib.ListN.{length, getD};
 ghost use Rattle.rules.specs.Limits.{maxSide};
 ghost use Rattle.rules.specs.Picture.{area, anyBelow};
-ghost use Rattle.rules.specs.Walk.{state, count, unusable};
+ghost use Rattle.rules.specs.Walk.{state, unusable};
 ghost use Rattle.rules.specs.Refusals.{first, startRows, sliceRows, mapRows};
 
 // Whether one of the first p indexes is n or more.
@@ -52,22 +53,6 @@ fn any_above(marks: &[u8], n: usize) -> bool
     above
 }
 
-// How many of the first n marks are 1.
-fn count_weak(marks: &[u8], n: usize) -> usize
-    requires { ⌜ n ≤ length (now marks) ⌝ }
-    ensures { λ r. ⌜ (r ≡ count 1 (now (marks .entry)) n) × (r ≤ n) ⌝ }
-{
-    let mut weak = 0;
-    let mut i = 0;
-    while i < n {
-        if marks[i] == MARK_WEAK {
-            weak += 1;
-        }
-        i += 1;
-    }
-    weak
-}
-
 // Row 9: a state is unusable (01.Walk.10).
 fn unusable_state(marks: &[u8], stack: &[u32], pending: usize, size: Size) -> bool
     requires { ⌜ (area size ≤ maxSide * maxSide) × (area size ≤ length (now marks)) × (area size ≤ length (now stack)) ⌝ }
@@ -83,7 +68,7 @@ fn unusable_state(marks: &[u8], stack: &[u32], pending: usize, size: Size) -> bo
     if any_above(marks, n) {
         return true;
     }
-    n < pending + count_weak(marks, n)
+    n < pending + count_of(marks, MARK_WEAK, n)
 }
 
 pub fn of_start(

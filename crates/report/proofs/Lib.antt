@@ -1,2 +1,2 @@
--- The law of a test that goes on entry by entry.
+-- The laws of a loop that tests entry after entry.
 pub mod Every

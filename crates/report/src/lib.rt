@@ -1,6 +1,6 @@
 // The lines of the programs that run examples: what was got, beside what is wanted. A line answers whether its two sides agree, and has a
 // contract for that. No contract can speak of what is written: it is compared with the program's file stdout, so a line whose two sides
-// differ, or that changes, fails the gate. What only writes (heading, words, part) states nothing.
+// differ, or that changes, fails the gate. What only writes (words, part) states nothing.
 use libc::STDOUT_FILENO;
 ghost use mathlib.Core.Path.{_≡_};
 ghost use mathlib.Core.Bool.{false, _&&_};
@@ -11,12 +11,6 @@ ghost use lib.IntN.{pos};
 ghost use lib.ListN.{length, getD};
 ghost use lib.Ieee as Ieee;
 ghost use Rattle.report.specs.Tests.{every, alike, shownBits};
-
-// A line of words alone, over a group of lines.
-pub fn heading(text: &[u8]) {
-    words(text);
-    words(b"\n");
-}
 
 // The beginning of a line, whose `name` is then the rest: words, or words and a number.
 pub fn words(text: &[u8]) {

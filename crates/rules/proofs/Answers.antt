@@ -1,7 +1,7 @@
 -- What a call answers by its refusal number: the number and what was there, or 0 and what acceptance gives. Assumes nothing.
-use mathlib.Core.Path.{_≡_, ap, _∙_, sym}
+use mathlib.Core.Path.{_≡_, ap, _∙_}
 use Prim.Native.Nat.{ℕ}
-use borrow.Author.Tests.{eq-eqb, ne-eqb}
+use borrow.Author.Tests.{ne-eqb}
 use Rattle.rules.specs.Calls.{answered}
 
 module _ {A : Type 0} (number r : ℕ) (e : r ≡ number) (done kept : A) where

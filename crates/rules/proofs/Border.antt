@@ -1,13 +1,13 @@
 -- What callers use of the border rules: a resolved coordinate is inside, and inside every mode reads the picture itself. Assumes nothing.
-use mathlib.Core.Path.{_≡_, refl, sym, ap, _∙_}
+use mathlib.Core.Path.{_≡_, refl, ap}
 use mathlib.Core.Bool.{Bool, true, false, cond}
-use Prim.Native.Nat.{ℕ, zero, suc, _+_, _-_, _*_, _/_, _%_, _<_, _≤_}
+use Prim.Native.Nat.{ℕ, zero, suc, _+_, _-_, _*_, _%_, _<_, _≤_}
 use native.Mathlib.Nat.{mod-lt, mod-eq-of-lt}
 use native.Mathlib.Omega.{arith}
 use borrow.Author.Tests.{ltb-true, ltb-false, eqb-true, eqb-false, lt-ltb, le-ltb}
 use lib.Dec.{ltb, eqb}
 use lib.IntN.{ℤ, pos, negsuc, _-ℤ_}
-use Rattle.rules.specs.Border.{resolved, zeroOf, clampOf, mirrorOf, fold, emod, sampleAt, entryAt}
+use Rattle.rules.specs.Border.{resolved, fold, emod, sampleAt}
 use Rattle.rules.specs.declared.Size.{Size}
 use Rattle.rules.specs.declared.BorderMode.{BorderMode}
 use Rattle.rules.specs.declared.BorderMode.the-variants.{Zero, Clamp, Mirror}

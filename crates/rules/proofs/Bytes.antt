@@ -1,5 +1,5 @@
 -- The rounding of the byte: `nearestWhole` is the one nearest whole number; and the box's tap is the f32 nearest 1/3. Assumes nothing.
-use mathlib.Core.Path.{_≡_, refl, sym, ap, _∙_}
+use mathlib.Core.Path.{_≡_, refl}
 use mathlib.Core.Bool.{false}
 use Prim.Native.Nat.{ℕ, _+_, _-_, _*_, _/_, _%_, _^_, _<_, _≤_}
 use native.Mathlib.Nat.{div-add-mod', mod-lt, mul-left-comm, mul-le-mul-right, add-mul}

@@ -72,14 +72,14 @@ module _ {A : Type 0} where
     pub same : length l ≡ length o
     pub is : l ≡ filled i f o
 
-  pub filling-start : (n : ℕ) (f : ℕ → A) (o : List A) → Filling n 0 f o o
-  filling-start n f o = record { within = omega arith; same = refl; is = fill-start f o }
+  pub filling-start : {n : ℕ} {f : ℕ → A} {o : List A} → Filling n 0 f o o
+  filling-start {n} {f} {o} = record { within = omega arith; same = refl; is = fill-start f o }
 
-  pub filling-more : (n i : ℕ) (f : ℕ → A) (o l : List A) (v : A) → n ≤ length o → i < n → Filling n i f o l → v ≡ f i → Filling n (i + 1) f o (set l i v)
-  filling-more n i f o l v h k p q = record { within = omega arith; same = length-set l i v ∙ p .same; is = fill-more i f o l v (omega arith) (p .is) q }
+  pub filling-more : {n i : ℕ} {f : ℕ → A} {o l : List A} {v : A} → n ≤ length o → i < n → Filling n i f o l → v ≡ f i → Filling n (i + 1) f o (set l i v)
+  filling-more {n} {i} {f} {o} {l} {v} h k p q = record { within = omega arith; same = length-set l i v ∙ p .same; is = fill-more i f o l v (omega arith) (p .is) q }
 
-  pub filling-end : (n i : ℕ) (f : ℕ → A) (o l : List A) → Filling n i f o l → n ≤ i → l ≡ filled n f o
-  filling-end n i f o l p h = let e : i ≡ n = omega (arith, p .within) in rw e at (p .is)
+  pub filling-end : {n i : ℕ} {f : ℕ → A} {o l : List A} → Filling n i f o l → n ≤ i → l ≡ filled n f o
+  filling-end {n} {i} p h = let e : i ≡ n = omega (arith, p .within) in rw e at (p .is)
 
   -- a run of k entries at a, written as a part of the buffer
   pub fill-part : (a k : ℕ) (f g : ℕ → A) (o l part : List A) → a + k ≤ length o → l ≡ filled a f o
@@ -100,9 +100,9 @@ module _ {A : Type 0} where
       rw k at (fill-part a (e - a) f g o l part (omega arith) q m r)
 
   -- k entries more, as the code lends the part from a to a + k
-  pub filling-part : (n a k : ℕ) (f g : ℕ → A) (o l part : List A) → n ≤ length o → a + k ≤ n → Filling n a f o l
+  pub filling-part : {n a k : ℕ} {f g : ℕ → A} {o l part : List A} → n ≤ length o → a + k ≤ n → Filling n a f o l
       → part ≡ filled k g (midOf a (a + k - a) l) → ((i : ℕ) → i < k → g i ≡ f (a + i)) → Filling n (a + k) f o (putMid a (a + k - a) l part)
-  filling-part n a k f g o l part h b p q r =
+  filling-part {n} {a} {k} {f} {g} {o} {l} {part} h b p q r =
       let e : a + k - a ≡ k = omega arith in
       let t : putMid a (a + k - a) l part ≡ filled (a + k) f o =
       fill-to a (a + k) f g o l part (omega arith) (omega arith) (p .is) (subst (λ (m : ℕ). part ≡ filled m g (midOf a (a + k - a) l)) (sym e) q) (λ i m. r i (omega arith)) in

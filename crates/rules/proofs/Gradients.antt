@@ -88,14 +88,14 @@ unfoldable pub weighted : List ℤ → (ℕ → ℕ) → ℤ
 weighted table s = sumZ (λ j. getD table j (pos 0) *ℤ pos (s j)) 9
 
 -- the right-hand column less the left-hand one, and the lower row less the upper
-pub gx-is : (s : ℕ → ℕ) → weighted gxTable s ≡ subℕ (s 2 + 2 * s 5 + s 8) (s 0 + 2 * s 3 + s 6)
+gx-is : (s : ℕ → ℕ) → weighted gxTable s ≡ subℕ (s 2 + 2 * s 5 + s 8) (s 0 + 2 * s 3 + s 6)
 unfolding weighted
 gx-is s =
     let p : sum (λ j. gain (getD gxTable j (pos 0)) * s j) 9 ≡ s 2 + 2 * s 5 + s 8 = omega arith in
     let n : sum (λ j. loss (getD gxTable j (pos 0)) * s j) 9 ≡ s 0 + 2 * s 3 + s 6 = omega arith in
     split (λ j. getD gxTable j (pos 0)) s 9 ∙ ap₂ subℕ p n
 
-pub gy-is : (s : ℕ → ℕ) → weighted gyTable s ≡ subℕ (s 6 + 2 * s 7 + s 8) (s 0 + 2 * s 1 + s 2)
+gy-is : (s : ℕ → ℕ) → weighted gyTable s ≡ subℕ (s 6 + 2 * s 7 + s 8) (s 0 + 2 * s 1 + s 2)
 unfolding weighted
 gy-is s =
     let p : sum (λ j. gain (getD gyTable j (pos 0)) * s j) 9 ≡ s 6 + 2 * s 7 + s 8 = omega arith in

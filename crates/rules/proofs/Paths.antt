@@ -25,12 +25,12 @@ is-near : (a b : ℕ) → Near a b → near a b ≡ true
 is-near a b h = rw (le-leb a (b + 1) (h .0), le-leb b (a + 1) (h .1))
 
 module _ (d : Size) (q r : ℕ) where
-  pub touch-of : q < area d → r < area d → touches d q r ≡ true → Touch d q r
+  touch-of : q < area d → r < area d → touches d q r ≡ true → Touch d q r
   touch-of k l e =
       let p = both (near (q % d .width) (r % d .width)) _ e in
       record { from = k; to = l; columns = near-is _ _ (p .0); rows = near-is _ _ (p .1) }
 
-  pub touches-of : Touch d q r → touches d q r ≡ true
+  touches-of : Touch d q r → touches d q r ≡ true
   touches-of t = rw (is-near (q % d .width) (r % d .width) (t .columns), is-near (q / d .width) (r / d .width) (t .rows))
 
 -- ---- the ends of a way

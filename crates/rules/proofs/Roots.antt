@@ -59,7 +59,7 @@ near-is t p h = go _ (wholeRoot 24 t) refl (whole 24 t h)
 
 -- ---- 01's own words: (2m - 1)² < 4t < (2m + 1)² says the same
 
-pub near-of : (s m k : ℕ) → NearestRoot s m k → Near (s * 4 ^ k) m
+near-of : (s m k : ℕ) → NearestRoot s m k → Near (s * 4 ^ k) m
 near-of s m k n = record { low = omega (arith, less-sq m (omega arith)); high = omega (arith, dbl-sq m, suc-sq (2 * m)) }
 
 pub nearest-of : (s m k : ℕ) → 2 ^ 23 ≤ m → m < 2 ^ 24 → Near (s * 4 ^ k) m → NearestRoot s m k
@@ -87,7 +87,7 @@ by : (P : ℕ → Type 0) (b : Bool) (s c x y : ℕ) → ltb s c ≡ b → (s < 
 by P true s c x y e f g = f (ltb-true s c e)
 by P false s c x y e f g = g (ltb-false s c e)
 
-pub shift-scales : (s : ℕ) → 0 < s → s < capS → Scaled s (shiftOf s)
+shift-scales : (s : ℕ) → 0 < s → s < capS → Scaled s (shiftOf s)
 shift-scales s p h =
     by (Scaled s) _ s 4 23 _ refl (λ u. omega arith) (λ l.
     by (Scaled s) _ s 16 22 _ refl (λ u. omega arith) (λ l.

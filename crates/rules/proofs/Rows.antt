@@ -1,22 +1,22 @@
--- Tables of refusals: a number 0 says that no row applies, and each row then gives its fact. Assumes nothing.
+-- Tables of refusals: a number 0 says that no row applies, and each row then gives its fact; and how the code goes down a table. Assumes nothing.
 use mathlib.Core.Path.{_≡_, refl, sym, ap, _∙_}
-use mathlib.Core.Bool.{Bool, true, false, not, _&&_, cond, _||_}
+use mathlib.Core.Bool.{Bool, true, false, not, _&&_, _||_, cond}
 use mathlib.Core.List.{List, [], _∷_}
 use Prim.Native.Nat.{ℕ, _*_, _%_, _<_, _≤_}
 use native.Mathlib.Omega.{arith}
 use native.Mathlib.Nat.{mul-le-mul}
 use lib.Dec.{T, ltb, eqb, ltb→lt}
-use lib.ListN.{length, getD}
-use lib.Ieee.{Float, nan}
+use lib.ListN.{length}
+use mir.Syntax.{w64}
+use mir.Val.{Fits}
+use lib.Ieee.{Float}
 use lib.Ieee.Fits.{and-l, and-r}
-use lib.Ieee.Scale.{finite}
-use borrow.Author.Tests.{ltb-false, eqb-true, eqb-false, not-false, eq-eqb, le-ltb}
+use borrow.Author.Tests.{ltb-false, eqb-true, eqb-false, not-false, eq-eqb, ne-eqb, lt-ltb, le-ltb}
 use Rattle.rules.specs.Limits.{maxSide}
-use Rattle.rules.specs.Picture.{area, anyBelow}
-use Rattle.rules.specs.Refusals.{Rule, first, sideRow, inputRow, countRow, matchRow, weightRow, roomRow}
+use Rattle.rules.specs.Picture.{area}
+use Rattle.rules.specs.Refusals.{Rule, first, sideRow, inputRow, countRow, matchRow, roomRow}
 use Rattle.rules.specs.declared.Size.{Size}
 use Rattle.rules.proofs.Bools.{neither}
-use Rattle.rules.proofs.Tests.{any-none}
 
 -- each row has a number of its own
 abbrev pub numbered : List Rule → Bool
@@ -38,21 +38,6 @@ off (r ∷ rs) t e =
     let p = passed (r .applies) (r .number) (first rs) (ltb→lt 0 (r .number) (and-l (ltb 0 (r .number)) (numbered rs) t)) e in
     (p .0, off rs (and-r (ltb 0 (r .number)) (numbered rs) t) (p .1))
 
--- and where no row applies the number is 0
-pub none : (rs : List Rule) → Off rs → first rs ≡ 0
-none [] o = refl
-none (r ∷ rs) o = rw (o .0) (none rs (o .1))
-
--- ---- a table that the code goes down row by row
-
--- a row that applies gives its number
-pub hit : (r : Rule) (rs : List Rule) → r .applies ≡ true → r .number ≡ first (r ∷ rs)
-hit r rs e = rw e
-
--- one that does not is passed over: `rs` is what is left of the whole table `all`
-pub skip : (all : ℕ) (r : Rule) (rs : List Rule) → all ≡ first (r ∷ rs) → r .applies ≡ false → all ≡ first rs
-skip all r rs p e = p ∙ rw e
-
 -- ---- what a row that does not apply says
 
 pub record Sides (d : Size) : Type 0 where
@@ -73,12 +58,9 @@ input-off d l e = eqb-true (length l) (area d) (not-false _ e)
 pub room-off : {A : Type 0} (d : Size) (l : List A) → roomRow d l .applies ≡ false → area d ≤ length l
 room-off d l e = ltb-false (length l) (area d) e
 
--- and the facts that keep these two rows from applying
+-- and the fact that keeps a row from applying
 pub input-fits : {A : Type 0} (d : Size) (l : List A) → length l ≡ area d → inputRow d l .applies ≡ false
 input-fits d l e = ap not (eq-eqb (length l) (area d) e)
-
-pub room-fits : {A : Type 0} (d : Size) (l : List A) → area d ≤ length l → roomRow d l .applies ≡ false
-room-fits d l h = le-ltb (length l) (area d) h
 
 pub record Odd (most n : ℕ) : Type 0 where
   pub some : 0 < n
@@ -96,5 +78,48 @@ count-off most n e =
 pub match-off : (n : ℕ) (l : List Float) → matchRow n l .applies ≡ false → length l ≡ n
 match-off n l e = eqb-true (length l) n (not-false _ e)
 
-pub weight-off : (l : List Float) → weightRow l .applies ≡ false → (k : ℕ) → k < length l → finite (getD l k nan) ≡ true
-weight-off l e k h = not-false _ (any-none (λ k. not (finite (getD l k nan))) (length l) e k h)
+-- ---- down a table in code: `search rows` closes what a test returns, `search rows depth 9` where the table is long
+
+-- a row that applies ends it, one that does not is passed
+pub on : {b : Bool} {n : ℕ} (rest : ℕ) → b ≡ true → n ≡ cond b n rest
+on rest e = rw e
+
+pub past : {b : Bool} {r : ℕ} (n : ℕ) {rest : ℕ} → b ≡ false → r ≡ rest → r ≡ cond b n rest
+past n e q = rw e q
+
+-- whether a row applies, by the answer of a function or of two, or by a fact of numbers
+pub told : {a x v : Bool} → x ≡ a → x ≡ v → a ≡ v
+told p q = sym p ∙ q
+
+pub told-or : {a b x y v : Bool} → x ≡ a → y ≡ b → (x || y) ≡ v → (a || b) ≡ v
+told-or p q e = rw (← p, ← q) e
+
+pub eq-not : (a b : ℕ) → a ≡ b → not (eqb a b) ≡ false
+eq-not a b e = ap not (eq-eqb a b e)
+
+pub ne-not : (a b : ℕ) → (a ≡ b → ⊥) → not (eqb a b) ≡ true
+ne-not a b n = ap not (ne-eqb a b n)
+
+-- where no side is over the limit their product is small, and fits
+module _ (w h : ℕ) {x : Bool} (p : x ≡ (ltb maxSide w || ltb maxSide h)) (q : x ≡ false) where
+  pub small : w * h ≤ maxSide * maxSide
+  small = side-off (record { width = w; height = h }) (told p q) .small
+
+  pub small-fits : Fits w64 (w * h)
+  small-fits = record { fits = omega (arith, small) }
+
+pub ruleset rows = (tt, on, past, told, lt-ltb, le-ltb, eq-eqb, ne-eqb, eq-not, ne-not, small, small-fits)
+
+-- rows of one number are one row, so `simp joined` goes before the search where the code tests them together
+pub joined : (n : ℕ) (a b : Bool) (r : ℕ) → cond a n (cond b n r) ≡ cond (a || b) n r
+joined n true b r = refl
+joined n false b r = refl
+
+-- tests joined by `or`, one after the other
+pub or-on : {a : Bool} (b : Bool) → a ≡ true → true ≡ (a || b)
+or-on b e = rw e
+
+pub or-past : {a b r : Bool} → a ≡ false → r ≡ b → r ≡ (a || b)
+or-past e q = rw e q
+
+pub ruleset ors = (or-on, or-past, told, lt-ltb, le-ltb)

@@ -1,7 +1,7 @@
 -- Signed numbers at the code's edge: a signed local is its bits, so what the code reads back is `toZ w (ofZ w z)`. Assumes nothing.
-use mathlib.Core.Path.{_≡_, refl, sym, ap, subst, _∙_}
+use mathlib.Core.Path.{_≡_, refl, sym, ap, _∙_}
 use mathlib.Core.Bool.{Bool, true, false, cond}
-use Prim.Native.Nat.{ℕ, zero, suc, _+_, _-_, _*_, _%_, _/_, _<_, _≤_, _^_}
+use Prim.Native.Nat.{ℕ, zero, suc, _+_, _-_, _%_, _/_, _<_, _≤_, _^_}
 use native.Mathlib.Nat.{mod-lt, mod-self, mod-eq-of-lt, div-le-self, sub-zero}
 use native.Mathlib.Omega.{arith}
 use lib.Dec.{T, ltb}
@@ -55,7 +55,7 @@ neg-fits zero a h = omega arith
 neg-fits (suc q) a h = omega arith
 
 -- a quotient by a natural number is no larger than what is divided
-pub mag-quot : (z : ℤ) (p : ℕ) → mag (quotZ z (pos p)) ≤ mag z
+mag-quot : (z : ℤ) (p : ℕ) → mag (quotZ z (pos p)) ≤ mag z
 mag-quot (pos a) p = div-le-self a p
 mag-quot (negsuc a) p = neg-fits (suc a / p) a (div-le-self (suc a) p)
 
@@ -72,7 +72,7 @@ pub rem-neg : (z : ℤ) (p : ℕ) → 0 < p → ltZ (remZ z (pos p)) (pos 0) ≡
 rem-neg (pos a) p h e = let f : a % p < 0 = ltb-true (a % p) 0 e in absurd (omega arith)
 rem-neg (negsuc a) p h e = mended (suc a % p) p (mod-lt (suc a) h) e
 
-pub rem-nat : (z : ℤ) (p : ℕ) → 0 < p → ltZ (remZ z (pos p)) (pos 0) ≡ false → remZ z (pos p) ≡ pos (emod z p)
+rem-nat : (z : ℤ) (p : ℕ) → 0 < p → ltZ (remZ z (pos p)) (pos 0) ≡ false → remZ z (pos p) ≡ pos (emod z p)
 rem-nat (pos a) p h e = refl
 rem-nat (negsuc a) p h e = unmended (suc a % p) p h e
 

@@ -39,7 +39,7 @@ fewer-more v (a ∷ l) = let h = one (ltb a v) (eqb a v) (ltb a (v + 1)) refl re
     one false false false p q r = refl
 
 -- so equal occurrences give equal counts
-pub fewer-same : (s l : List ℕ) → ((v : ℕ) → occurrences v s ≡ occurrences v l) → (v : ℕ) → fewer v s ≡ fewer v l
+fewer-same : (s l : List ℕ) → ((v : ℕ) → occurrences v s ≡ occurrences v l) → (v : ℕ) → fewer v s ≡ fewer v l
 fewer-same s l h zero = fewer-none s ∙ sym (fewer-none l)
 fewer-same s l h (suc v) =
     let p : fewer (v + 1) s ≡ fewer (v + 1) l = omega (arith, fewer-more v s, fewer-more v l, h v, fewer-same s l h v) in
@@ -183,7 +183,7 @@ sorted-ordered (a ∷ l) = insert-ordered a (sorted l) (sorted-ordered l)
 pub sorted-is : (l : List ℕ) → SortOf l (sorted l)
 sorted-is l = record { ordered = sorted-ordered l; same = λ v. sorted-same v l }
 
-pub length-sorted : (l : List ℕ) → length (sorted l) ≡ length l
+length-sorted : (l : List ℕ) → length (sorted l) ≡ length l
 length-sorted l = same-length (sorted l) l (λ v. sorted-same v l)
 
 -- item k, by counts: at most k entries are below v, and more than k are at most v

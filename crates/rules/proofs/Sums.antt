@@ -1,7 +1,7 @@
 -- Ordered sums, term by term, and over a whole row at once. Assumes nothing.
 use mathlib.Core.Path.{_≡_, refl, ap, _∙_}
 use mathlib.Core.List.{List}
-use Prim.Native.Nat.{ℕ, zero, suc, _+_, _<_, _≤_}
+use Prim.Native.Nat.{ℕ, _+_, _<_, _≤_}
 use native.Mathlib.Numerals.{add-one}
 use native.Mathlib.Omega.{arith}
 use lib.ListN.{length, getD}
@@ -11,14 +11,9 @@ use Rattle.rules.specs.Sums.{plusZero, orderedSum}
 use Rattle.rules.proofs.Fill.{filled-at, refill, still, length-filled}
 
 -- one more term
-pub sum-more : (t : ℕ → Float) (k : ℕ) (s v : Float) → s ≡ orderedSum t k → v ≡ t k → add binary32 s v ≡ orderedSum t (k + 1)
+sum-more : (t : ℕ → Float) (k : ℕ) (s v : Float) → s ≡ orderedSum t k → v ≡ t k → add binary32 s v ≡ orderedSum t (k + 1)
 unfolding orderedSum
 sum-more t k s v p q = rw (add-one, p, q)
-
-pub sum-cong : (n : ℕ) (s t : ℕ → Float) → ((k : ℕ) → k < n → s k ≡ t k) → orderedSum s n ≡ orderedSum t n
-unfolding orderedSum
-sum-cong zero s t h = refl
-sum-cong (suc n) s t h = rw (sum-cong n s t (λ k l. h k (omega arith)), h n (omega arith))
 
 -- ---- w sums side by side: sum x has the terms t x 0, t x 1, ..
 
@@ -30,11 +25,11 @@ summed w t k o = filled w (λ x. orderedSum (t x) k) o
 abbrev pub oneMore : List Float → (ℕ → ℕ → Float) → ℕ → ℕ → Float
 oneMore l t k x = add binary32 (getD l x nan) (t x k)
 
-pub no-terms : (w : ℕ) (t : ℕ → ℕ → Float) (o r : List Float) → r ≡ filled w (λ x. plusZero) o → r ≡ summed w t 0 o
+no-terms : (w : ℕ) (t : ℕ → ℕ → Float) (o r : List Float) → r ≡ filled w (λ x. plusZero) o → r ≡ summed w t 0 o
 unfolding orderedSum
 no-terms w t o r e = e
 
-pub one-more : (w : ℕ) (t : ℕ → ℕ → Float) (k : ℕ) (o l r : List Float) → l ≡ summed w t k o → r ≡ filled w (oneMore l t k) l → r ≡ summed w t (k + 1) o
+one-more : (w : ℕ) (t : ℕ → ℕ → Float) (k : ℕ) (o l r : List Float) → l ≡ summed w t k o → r ≡ filled w (oneMore l t k) l → r ≡ summed w t (k + 1) o
 one-more w t k o l r p q =
     refill w (λ x. orderedSum (t x) k) (oneMore l t k) (λ x. orderedSum (t x) (k + 1)) o l r p q
     (λ x h. sum-more (t x) k _ _ (filled-at w (λ x. orderedSum (t x) k) o l nan x p h) refl)
@@ -47,8 +42,8 @@ pub record Summing (w most k : ℕ) (t : ℕ → ℕ → Float) (o l : List Floa
   pub is : l ≡ summed w t k o
 
 -- cleared from e
-pub summing-start : (w most : ℕ) (t : ℕ → ℕ → Float) (e o : List Float) → w ≤ length e → o ≡ filled w (λ x. plusZero) e → Summing w most 0 t o o
-summing-start w most t e o h p =
+pub summing-start : {w most : ℕ} {t : ℕ → ℕ → Float} {o : List Float} (e : List Float) → w ≤ length e → o ≡ filled w (λ x. plusZero) e → Summing w most 0 t o o
+summing-start {w} {most} {t} {o} e h p =
     record {
       within = omega arith;
       room = omega (arith, ap length p ∙ length-filled w (λ x. plusZero) e h);
@@ -56,12 +51,12 @@ summing-start w most t e o h p =
       is = no-terms w t o o (still w (λ x. plusZero) e o p);
     }
 
-pub summing-more : (w most k : ℕ) (t : ℕ → ℕ → Float) (o l r : List Float) → k < most → Summing w most k t o l → r ≡ filled w (oneMore l t k) l → Summing w most (k + 1) t o r
-summing-more w most k t o l r m p q =
+pub summing-more : {w most k : ℕ} {t : ℕ → ℕ → Float} {o l r : List Float} → k < most → Summing w most k t o l → r ≡ filled w (oneMore l t k) l → Summing w most (k + 1) t o r
+summing-more {w} {most} {k} {t} {o} {l} {r} m p q =
     let s = ap length q ∙ length-filled w (oneMore l t k) l (p .room) in
     record { within = omega arith; room = omega (arith, p .room); same = s ∙ p .same; is = one-more w t k o l r (p .is) q }
 
-pub summing-end : (w most k : ℕ) (t : ℕ → ℕ → Float) (e o l : List Float) → o ≡ filled w (λ x. plusZero) e → Summing w most k t o l → most ≤ k → l ≡ summed w t most e
-summing-end w most k t e o l q p h =
+pub summing-end : {w most k : ℕ} {t : ℕ → ℕ → Float} {o l : List Float} (e : List Float) → o ≡ filled w (λ x. plusZero) e → Summing w most k t o l → most ≤ k → l ≡ summed w t most e
+summing-end {w} {most} {k} {t} {o} {l} e q p h =
     let n : k ≡ most = omega (arith, p .within) in
     refill w (λ x. plusZero) (λ x. orderedSum (t x) most) (λ x. orderedSum (t x) most) e o l q (rw n at (p .is)) (λ x m. refl)

@@ -67,14 +67,6 @@ module _ (f g : ℕ → Bool) where
         go ih (inr p) = let b : bit (f n) ≡ bit (g n) = ap bit (h n (omega arith)) in let c = ih p in omega arith
 
 module _ (f : ℕ → Bool) where
-  pub tally-none : (n : ℕ) → ((q : ℕ) → q < n → f q ≡ false) → tally f n ≡ 0
-  unfolding tally
-  tally-none zero h = refl
-  tally-none (suc n) h =
-      let a : bit (f n) ≡ 0 = ap bit (h n (le-refl (suc n))) in
-      let b = tally-none n (λ q l. h q (omega arith)) in
-      omega arith
-
   pub tally-zero : (n : ℕ) → tally f n ≡ 0 → (q : ℕ) → q < n → f q ≡ false
   unfolding tally
   tally-zero zero e q l = absurd (omega arith)

@@ -1,5 +1,5 @@
 -- 01's starred examples, as one list and one statement about it (01.Proved.1 to 01.Proved.14), proved by computation.
-use Prim.Native.Nat.{ℕ, _+_, _*_}
+use Prim.Native.Nat.{ℕ, _*_}
 use mathlib.Core.Path.{_≡_, refl}
 use mathlib.Core.List.{List, [], _∷_, map}
 use mathlib.Core.Option.{Option, some, none}
@@ -8,7 +8,7 @@ use lib.Ieee.{Float, nan, inf, fin, up, down, binary32, add, mul, ofInt, ofBits,
 use Rattle.rules.specs.Picture.{inRowOrder, tabulate, anyBelow, tally}
 use Rattle.rules.specs.Border.{sampleAt}
 use Rattle.rules.specs.Sums.{wholeF32, orderedSum, toByte}
-use Rattle.rules.specs.Filters.{convolvedAt, separableAt, kernelSum, kernelTerm}
+use Rattle.rules.specs.Filters.{convolvedAt, separableAt, kernelSum, kernelTerm, sharpenKernel, sharpenWeights}
 use Rattle.rules.specs.Root.{magnitudeOf, rootOf, nearRoot, wholeRoot, sobelByte, leastFrom}
 use Rattle.rules.specs.Sector.{sectorOf}
 use Rattle.rules.specs.Walk.{atLeast, started, classed, class, sliced, taken, pop, looks, visit, look}
@@ -110,6 +110,10 @@ unrounded =
     inRowOrder (record { width = 1; height = 1 })
     (separableAt (record { width = 1; height = 1 }) (record { horizontal = 1; vertical = 1 }) Clamp (1 ∷ []) (ofBits binary32 0x3f00_0000 ∷ []) (ofBits binary32 0x3f40_0000 ∷ []))
 
+-- a row of 10, 20, 30, sharpened. With a centre of 4 it would be 0, 0, 10
+abbrev sharpened : List ℕ
+sharpened = inRowOrder (record { width = 3; height = 1 }) (convolvedAt (record { width = 3; height = 1 }) sharpenKernel Clamp (10 ∷ 20 ∷ 30 ∷ []) sharpenWeights)
+
 -- the f32 just below 0.5, 0.5, 254.5, -0.5, an infinity and NaN
 abbrev rounded : List ℕ
 rounded = map (λ (b : ℕ). toByte (ofBits binary32 b)) (0x3eff_ffff ∷ 0x3f00_0000 ∷ 0x437e_8000 ∷ 0xbf00_0000 ∷ 0x7f80_0000 ∷ 0x7fc0_0000 ∷ [])
@@ -119,6 +123,7 @@ slips =
     ex ordered (0 ∷ [])
     ∷ ex upwards (20 ∷ 30 ∷ 30 ∷ [])
     ∷ ex unrounded (0 ∷ [])
+    ∷ ex sharpened (0 ∷ 20 ∷ 40 ∷ [])
     ∷ ex rounded (0 ∷ 1 ∷ 255 ∷ 0 ∷ 255 ∷ 0 ∷ [])
     ∷ []
 

@@ -1,5 +1,5 @@
 -- Convolution, the separable filters, box and sharpen: what stands at each pixel. One definition over a sampler serves bytes and f32.
-use Prim.Native.Nat.{ℕ, _+_, _-_, _*_, _/_, _%_}
+use Prim.Native.Nat.{ℕ, _*_, _/_, _%_}
 use mathlib.Core.List.{List, [], _∷_}
 use lib.ListN.{getD}
 use lib.IntN.{ℤ, pos, negsuc}

@@ -1,5 +1,5 @@
 -- Joined pixels, by paths and without a word of the walk (00.D3.2); a test that computes them; and DEMAND 3.
-use Prim.Native.Nat.{ℕ, zero, suc, _+_, _*_, _/_, _%_, _≤_, _<_, min}
+use Prim.Native.Nat.{ℕ, zero, suc, _+_, _/_, _%_, _≤_, _<_, min}
 use mathlib.Core.Path.{_≡_}
 use mathlib.Core.Logic.{_↔_}
 use mathlib.Core.Bool.{Bool, false, cond, _&&_, _||_}

@@ -1,5 +1,5 @@
 -- The table of refusals (01.Refusal.1 to 01.Refusal.13): its rows, and for each public call the rows whose subject it has.
-use Prim.Native.Nat.{ℕ, _+_, _*_, _%_}
+use Prim.Native.Nat.{ℕ, _*_, _%_}
 use mathlib.Core.Bool.{Bool, not, cond, _||_}
 use mathlib.Core.List.{List, [], _∷_}
 use lib.Dec.{ltb, eqb}

@@ -1,6 +1,6 @@
 -- The sector of a gradient, by squares, and the neighbours that it chooses (01.Gradient.7 to 01.Gradient.17).
 use Prim.Native.Nat.{ℕ, _+_, _*_}
-use mathlib.Core.Bool.{Bool, cond, _&&_, Bool·beq}
+use mathlib.Core.Bool.{cond, _&&_, Bool·beq}
 use lib.Dec.{ltb, eqb}
 use lib.IntN.{ℤ, pos, negsuc, natAbs}
 use lib.Signed.{nonNeg}

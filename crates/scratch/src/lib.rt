@@ -1,13 +1,11 @@
-// What a whole run ends with: its scratch cleared, and the edges of its map counted. Every function is total: of a buffer with fewer than n
-// entries, all that it has.
-use rules::EDGE;
+// Buffers cleared, and bytes counted: what a whole run ends with, and its stages begin with. Every function is total: of a
+// buffer with fewer than n entries, all that it has.
 ghost use mathlib.Core.Path.{_≡_};
-ghost use Prim.Native.Nat.{min};
-ghost use lib.Dec.{eqb};
-ghost use lib.ListN.{length, getD};
+ghost use Prim.Native.Nat.{_+_, _-_, _≤_, min};
+ghost use lib.ListN.{length};
 ghost use lib.IntN.{pos};
-ghost use Rattle.rules.specs.Picture.{tally};
 ghost use Rattle.rules.specs.Sums.{plusZero};
+ghost use Rattle.rules.specs.Walk.{count};
 ghost use Rattle.scratch.specs.Cleared.{clearedTo};
 
 pub fn least(a: usize, b: usize) -> usize
@@ -16,7 +14,7 @@ pub fn least(a: usize, b: usize) -> usize
     if a < b { a } else { b }
 }
 
-fn clear_floats(buffer: &mut [f32], n: usize)
+pub fn clear_floats(buffer: &mut [f32], n: usize)
     ensures { λ _. ⌜ now (buffer .exit) ≡ clearedTo n plusZero (now (buffer .entry)) ⌝ }
 {
     let most = least(n, buffer.len());
@@ -49,7 +47,7 @@ fn clear_bytes(buffer: &mut [u8], n: usize)
     }
 }
 
-fn clear_places(buffer: &mut [u32], n: usize)
+pub fn clear_places(buffer: &mut [u32], n: usize)
     ensures { λ _. ⌜ now (buffer .exit) ≡ clearedTo n 0 (now (buffer .entry)) ⌝ }
 {
     let most = least(n, buffer.len());
@@ -94,18 +92,36 @@ pub fn clear_walk(work: &mut [f32], marks: &mut [u8], stack: &mut [u32], n: usiz
     clear_places(stack, n);
 }
 
-// How many of the map's first n entries are 255.
-pub fn count_edges(map: &[u8], n: usize) -> usize
-    ensures { λ r. ⌜ r ≡ tally (λ q. eqb (getD (now (map .entry)) q 0) 255) (min n (length (now (map .entry)))) ⌝ }
+// How many of the entries from a to e are v: counted in a byte, so that the loop looks at many at once.
+fn count_block(bytes: &[u8], v: u8, a: usize, e: usize) -> u8
+    requires { ⌜ (a ≤ e) × (e - a ≤ 255) × (e ≤ length (now bytes)) ⌝ }
+    ensures { λ r. ⌜ count v (now (bytes .entry)) e ≡ count v (now (bytes .entry)) a + r ⌝ }
 {
-    let most = least(n, map.len());
-    let mut count = 0;
-    let mut i = 0;
-    while i < most {
-        if map[i] == EDGE {
-            count += 1;
+    let mut found = 0;
+    let mut i = a;
+    while i < e {
+        if bytes[i] == v {
+            found += 1;
         }
         i += 1;
     }
-    count
+    found
+}
+
+// No byte counts more.
+const BLOCK: usize = 255;
+
+// How many of the first n entries are v.
+pub fn count_of(bytes: &[u8], v: u8, n: usize) -> usize
+    ensures { λ r. ⌜ (r ≤ n) × (r ≡ count v (now (bytes .entry)) (min n (length (now (bytes .entry))))) ⌝ }
+{
+    let most = least(n, bytes.len());
+    let mut found = 0;
+    let mut a = 0;
+    while a < most {
+        let e = a + least(BLOCK, most - a);
+        found += count_block(bytes, v, a, e) as usize;
+        a = e;
+    }
+    found
 }

@@ -9,15 +9,7 @@ ghost use mathlib.Core.Path.{_≡_};
 
 // Place 1: the border. A number is read here, where nothing but the line is lent: that is what makes a check short.
 pub(crate) fn border(v: &[u32; 80]) -> BorderMode {
-    border_of(v[1])
-}
-
-pub(crate) fn border_of(n: u32) -> BorderMode {
-    match n {
-        0 => BorderMode::Zero,
-        1 => BorderMode::Clamp,
-        _ => BorderMode::Mirror,
-    }
+    cases::border(v[1])
 }
 
 // In place of a border: how else the filter is made.

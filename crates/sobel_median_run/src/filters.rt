@@ -46,7 +46,7 @@ fn sobel_filter(made: u32) -> SobelFilter {
         case::BY_NEW => SobelFilter::new(),
         case::BY_DEFAULT => SobelFilter::default(),
         case::CONSTANT => SobelFilter::DEFAULT,
-        _ => SobelFilter::with_border(case::border_of(made)),
+        _ => SobelFilter::with_border(cases::border(made)),
     }
 }
 
@@ -56,7 +56,7 @@ fn median_filter(made: u32, window: u32) -> MedianFilter {
         case::BY_DEFAULT => MedianFilter::default(),
         case::CONSTANT => MedianFilter::DEFAULT,
         case::BY_DEFAULT_SIZE => MedianFilter::new(MedianFilter::DEFAULT_SIZE),
-        _ => MedianFilter::with_border(count(window), case::border_of(made)),
+        _ => MedianFilter::with_border(count(window), cases::border(made)),
     }
 }
 

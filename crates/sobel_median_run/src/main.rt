@@ -7,9 +7,6 @@ mod gradients;
 use cases::wide;
 use libc::STDIN_FILENO;
 
-// More lines than the file has.
-const MOST_LINES: usize = 180;
-
 fn main() {
     let mut text = io::large_buffer();
     let n = io::read_full(STDIN_FILENO, &mut text);
@@ -18,25 +15,23 @@ fn main() {
 
 fn lines_of(text: &[u8]) {
     let mut at = 0;
-    let mut i = 0;
-    while i < MOST_LINES {
-        line(text, &mut at);
-        i += 1;
+    while at < text.len() {
+        let case = cases::case(text, &mut at);
+        line(&case);
     }
 }
 
 // A line's first number says what its case is of; 9 is a heading.
-fn line(text: &[u8], at: &mut usize) {
-    let v = cases::case(text, at);
+fn line(v: &[u32; 80]) {
     let kind = v[0];
     match kind {
-        1 => gradients::run(&v),
-        2 => gradients::widest(&v),
+        1 => gradients::run(v),
+        2 => gradients::widest(v),
         3 => byte(v[1], v[2]),
-        4 => filters::run(&v),
-        5 => filters::widest(&v),
-        6 => filters::mixed(&v),
-        9 => report::heading(b""),
+        4 => filters::run(v),
+        5 => filters::widest(v),
+        6 => filters::mixed(v),
+        9 => report::words(b"\n"),
         _ => {}
     }
 }

@@ -1,19 +1,14 @@
 -- What an accepted start has, and what a start answers by its number. Assumes nothing.
 use Prim.Native.Nat.{ℕ, _≤_}
-use mathlib.Core.Path.{_≡_, ap, _∙_}
+use mathlib.Core.Path.{_≡_}
 use mathlib.Core.Bool.{false}
 use mathlib.Core.List.{List}
 use lib.ListN.{length}
 use lib.Ieee.{Float, lt}
-use borrow.Author.Tests.{ne-eqb}
-use Rattle.rules.specs.Picture.{area, cleared}
-use Rattle.rules.specs.Walk.{state, atLeast, classed, started}
+use Rattle.rules.specs.Picture.{area}
 use Rattle.rules.specs.Refusals.{first, badThreshold, startRows}
-use Rattle.rules.specs.Calls as Calls
-use Rattle.rules.specs.Calls.{walkOf, afterStart}
 use Rattle.rules.specs.declared.Size.{Size}
 use Rattle.rules.specs.declared.Thresholds.{Thresholds}
-use Rattle.rules.specs.declared.Started.{Started}
 use Rattle.rules.proofs.Bools.{neither}
 use Rattle.rules.proofs.Rows.{Sides, off, side-off, input-off, room-off}
 
@@ -26,7 +21,8 @@ pub record Startable (d : Size) (t : Thresholds) (magnitudes : List Float) (mark
   pub marks-long : area d ≤ length marks
   pub stack-long : area d ≤ length stack
 
-pub startable : (d : Size) (t : Thresholds) (magnitudes : List Float) (marks stack : List ℕ) → first (startRows d t magnitudes marks stack) ≡ 0 → Startable d t magnitudes marks stack
+pub startable : (d : Size) (t : Thresholds) (magnitudes : List Float) (marks stack : List ℕ)
+    → first (startRows d t magnitudes marks stack) ≡ 0 → Startable d t magnitudes marks stack
 startable d t magnitudes marks stack e =
     let p = off (startRows d t magnitudes marks stack) tt e in
     let b = neither (badThreshold (t .low)) _ (p .1 .1 .0) in
@@ -39,18 +35,3 @@ startable d t magnitudes marks stack e =
       marks-long = room-off d marks (p .1 .1 .1 .1 .0);
       stack-long = room-off d stack (p .1 .1 .1 .1 .1 .0);
     }
-
--- the answers: k is the number that the code worked out
-module _ (d : Size) (t : Thresholds) (magnitudes : List Float) (m s : List ℕ) (k : ℕ) (e : k ≡ first (startRows d t magnitudes m s)) where
-  pub start-refused : (k ≡ 0 → ⊥)
-      → _≡_ {A = Started × (List ℕ × List ℕ)} (record { refusal = k; walk = record { width = 0; height = 0; pending = 0 } }, (m, s)) (Calls.start d t magnitudes m s)
-  unfolding Calls.start
-  start-refused n = rw (← e, ne-eqb k 0 n)
-
-  pub start-made : (s′ m″ s″ : List ℕ) (p : ℕ) → k ≡ 0 → s′ ≡ cleared (area d) 0 s
-      → state m″ s″ p ≡ classed (atLeast (t .high) magnitudes) (atLeast (t .low) magnitudes) (area d) (state m s′ 0)
-      → _≡_ {A = Started × (List ℕ × List ℕ)} (record { refusal = 0; walk = walkOf d p }, (m″, s″)) (Calls.start d t magnitudes m s)
-  unfolding Calls.start afterStart started
-  start-made s′ m″ s″ p z f g =
-      let q : state m″ s″ p ≡ afterStart d t magnitudes m s = g ∙ ap (λ (x : List ℕ). classed (atLeast (t .high) magnitudes) (atLeast (t .low) magnitudes) (area d) (state m x 0)) f in
-      rw (← e, z, ← q)

@@ -8,67 +8,64 @@ use rules::Size;
 use rules::Started;
 use rules::Thresholds;
 use rules::Walk;
+use scratch::clear_places;
 ghost use mathlib.Core.Path.{_≡_};
 ghost use Prim.Native.Nat.{_*_, _≤_, _<_};
+ghost use lib.Dec.{eqb};
 ghost use lib.ListN.{length};
 ghost use lib.Ieee as Ieee;
 ghost use Rattle.rules.specs.Limits.{maxSide};
-ghost use Rattle.rules.specs.Picture.{cleared};
-ghost use Rattle.rules.specs.Walk.{state, atLeast, class, classed};
+ghost use Rattle.rules.specs.Picture.{filled};
+ghost use Rattle.rules.specs.Walk.{has, atLeast};
 ghost use Rattle.rules.specs.Calls as Calls;
+ghost use Rattle.starting.specs.Split.{markOf, put, stacked};
 
-// The first n places are cleared.
-fn clear(stack: &mut [u32], n: usize)
-    requires { ⌜ n ≤ length (now stack) ⌝ }
-    ensures { λ _. ⌜ now (stack .exit) ≡ cleared n 0 (now (stack .entry)) ⌝ }
+// A pixel's mark by its magnitude m; a NaN is below everything.
+fn mark_of(m: f32, thresholds: Thresholds) -> u8
+    ensures { λ r. ⌜ r ≡ markOf (Ieee.le (thresholds .high) m) (Ieee.le (thresholds .low) m) ⌝ }
+{
+    if thresholds.high <= m {
+        return MARK_PENDING;
+    }
+    if thresholds.low <= m {
+        return MARK_WEAK;
+    }
+    MARK_NONE
+}
+
+// The first n marks. The stack is filled in a second pass, so that this one looks at several pixels at once.
+fn mark_all(magnitudes: &[f32], thresholds: Thresholds, marks: &mut [u8], n: usize)
+    requires { ⌜ (n ≤ length (now magnitudes)) × (n ≤ length (now marks)) ⌝ }
+    ensures { λ _. ⌜ now (marks .exit) ≡ filled n (λ i. markOf (atLeast (thresholds .high) (now (magnitudes .entry)) i) (atLeast (thresholds .low) (now (magnitudes .entry)) i)) (now (marks .entry)) ⌝ }
 {
     let mut i = 0;
     while i < n {
-        stack[i] = 0;
+        marks[i] = mark_of(magnitudes[i], thresholds);
         i += 1;
     }
 }
 
-// Pixel i is classed by its magnitude m; a NaN is below everything.
-fn class_one(
-    m: f32,
-    thresholds: Thresholds,
-    marks: &mut [u8],
-    stack: &mut [u32],
-    pending: usize,
-    i: usize,
-) -> usize
-    requires { ⌜ (i < length (now marks)) × (i < maxSide * maxSide) × (pending < length (now stack)) ⌝ }
-    ensures { λ p. ⌜ state (now (marks .exit)) (now (stack .exit)) p ≡ class (Ieee.le (thresholds .high) m) (Ieee.le (thresholds .low) m) i (state (now (marks .entry)) (now (stack .entry)) pending) ⌝ }
+// Pixel i goes on the stack if its mark says so; how many are pending then.
+fn stack_one(mark: u8, stack: &mut [u32], pending: usize, i: usize) -> usize
+    requires { ⌜ (i < maxSide * maxSide) × (pending < length (now stack)) ⌝ }
+    ensures { λ p. ⌜ (now (stack .exit), p) ≡ put (eqb mark 2) i (now (stack .entry), pending) ⌝ }
 {
-    if thresholds.high <= m {
-        marks[i] = MARK_PENDING;
+    if mark == MARK_PENDING {
         stack[pending] = i as u32;
         return pending + 1;
     }
-    marks[i] = if thresholds.low <= m {
-        MARK_WEAK
-    } else {
-        MARK_NONE
-    };
     pending
 }
 
-// The first n pixels are classed, in row order; the answer is how many are pending.
-fn class_all(
-    magnitudes: &[f32],
-    thresholds: Thresholds,
-    marks: &mut [u8],
-    stack: &mut [u32],
-    n: usize,
-) -> usize
-    requires { ⌜ (n ≤ maxSide * maxSide) × (n ≤ length (now magnitudes)) × (n ≤ length (now marks)) × (n ≤ length (now stack)) ⌝ }
-    ensures { λ p. ⌜ state (now (marks .exit)) (now (stack .exit)) p ≡ classed (atLeast (thresholds .high) (now (magnitudes .entry))) (atLeast (thresholds .low) (now (magnitudes .entry))) n (state (now (marks .entry)) (now (stack .entry)) 0) ⌝ }
+// The pending ones of the first n pixels go on the stack, in row order; how many.
+fn stack_all(marks: &[u8], stack: &mut [u32], n: usize) -> usize
+    requires { ⌜ (n ≤ maxSide * maxSide) × (n ≤ length (now marks)) × (n ≤ length (now stack)) ⌝ }
+    ensures { λ p. ⌜ (now (stack .exit), p) ≡ stacked (has 2 (now (marks .entry))) n (now (stack .entry)) ⌝ }
 {
     let mut pending = 0;
     let mut i = 0;
     while i < n {
-        pending = class_one(magnitudes[i], thresholds, marks, stack, pending, i);
+        pending = stack_one(marks[i], stack, pending, i);
         i += 1;
     }
     pending
@@ -96,8 +93,9 @@ pub fn start(
         };
     }
     let n = size.width * size.height;
-    clear(stack, n);
-    let pending = class_all(magnitudes, thresholds, marks, stack, n);
+    clear_places(stack, n);
+    mark_all(magnitudes, thresholds, marks, n);
+    let pending = stack_all(marks, stack, n);
     Started {
         refusal: ACCEPTED,
         walk: Walk {

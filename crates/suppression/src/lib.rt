@@ -6,13 +6,13 @@ use magnitude::size_of;
 use refusals::gradient::of_suppression;
 use rules::ACCEPTED;
 use rules::Size;
+use scratch::clear_floats;
 ghost use mathlib.Core.Path.{_≡_};
 ghost use mathlib.Core.Bool.{cond};
 ghost use Prim.Native.Nat.{_≤_};
 ghost use lib.ListN.{length};
 ghost use Rattle.rules.specs.Limits.{maxSide};
-ghost use Rattle.rules.specs.Picture.{area, cleared, filled};
-ghost use Rattle.rules.specs.Sums.{plusZero};
+ghost use Rattle.rules.specs.Picture.{area, filled};
 ghost use Rattle.rules.specs.Sector.{sectorOf};
 ghost use Rattle.rules.specs.Suppression.{suppressedAt};
 ghost use Rattle.rules.specs.Calls.{painted, nonMaximumSuppression};
@@ -111,17 +111,6 @@ fn suppressed(magnitude: &[f32], gx: &[i16], gy: &[i16], width: usize, i: usize)
     pick((before <= m) & (after <= m), m, 0.0)
 }
 
-// All of it +0.
-fn clear(out: &mut [f32])
-    ensures { λ _. ⌜ now (out .exit) ≡ cleared (length (now (out .entry))) plusZero (now (out .entry)) ⌝ }
-{
-    let mut x = 0;
-    while x < out.len() {
-        out[x] = 0.0;
-        x += 1;
-    }
-}
-
 // An inner row, whose first pixel is `start`: +0, its inner pixels, +0.
 fn suppress_row(magnitude: &[f32], gx: &[i16], gy: &[i16], start: usize, out: &mut [f32])
     requires { ⌜ InnerRow (now magnitude) (now gx) (now gy) start (length (now out)) ⌝ }
@@ -146,7 +135,7 @@ fn suppress_rows(magnitude: &[f32], gx: &[i16], gy: &[i16], size: Size, out: &mu
     ensures { λ _. ⌜ now (out .exit) ≡ painted size (suppressedAt size (now (magnitude .entry)) (now (gx .entry)) (now (gy .entry))) (now (out .entry)) ⌝ }
 {
     let width = size.width;
-    clear(&mut out[0..width]);
+    clear_floats(out, width);
     let mut y = 1;
     let mut start = width;
     while y + 1 < size.height {
@@ -156,7 +145,7 @@ fn suppress_rows(magnitude: &[f32], gx: &[i16], gy: &[i16], size: Size, out: &mu
         y += 1;
     }
     let end = start + width;
-    clear(&mut out[start..end]);
+    clear_floats(&mut out[start..end], width);
 }
 
 // The whole picture: where a side is under 3 no pixel is an inner one.
@@ -166,7 +155,7 @@ fn suppress(magnitude: &[f32], gx: &[i16], gy: &[i16], size: Size, out: &mut [f3
 {
     let n = size.width * size.height;
     if (size.width < 3) | (size.height < 3) {
-        clear(&mut out[0..n]);
+        clear_floats(out, n);
         return;
     }
     suppress_rows(magnitude, gx, gy, size, out);

@@ -8,9 +8,6 @@ use cases::signed;
 use cases::wide;
 use libc::STDIN_FILENO;
 
-// More lines than the file has.
-const MOST_LINES: usize = 200;
-
 fn main() {
     let mut text = io::large_buffer();
     let n = io::read_full(STDIN_FILENO, &mut text);
@@ -19,23 +16,21 @@ fn main() {
 
 fn lines_of(text: &[u8]) {
     let mut at = 0;
-    let mut i = 0;
-    while i < MOST_LINES {
-        line(text, &mut at);
-        i += 1;
+    while at < text.len() {
+        let case = cases::case(text, &mut at);
+        line(&case);
     }
 }
 
 // A line's first number says what its case is of.
-fn line(text: &[u8], at: &mut usize) {
-    let case = cases::case(text, at);
+fn line(case: &[u32; 80]) {
     let kind = case[0];
     match kind {
         1 => sector(case[1], case[2], case[3]),
         2 => magnitude_of(case[1], case[2]),
         3 => nearest_of_all(case[1]),
-        4 => pictures::magnitude(&case),
-        5 => pictures::suppression(&case),
+        4 => pictures::magnitude(case),
+        5 => pictures::suppression(case),
         _ => {}
     }
 }

@@ -8,10 +8,8 @@ mod walks;
 
 use libc::STDIN_FILENO;
 
-// More bytes and more lines than the file has.
+// More bytes than the file has.
 const ROOM: usize = 262144;
-
-const MOST_LINES: usize = 2000;
 
 fn main() {
     let mut text = [0u8; ROOM];
@@ -21,20 +19,10 @@ fn main() {
 
 fn lines_of(text: &[u8]) {
     let mut at = 0;
-    let mut i = 0;
-    while i < MOST_LINES {
-        at = line(text, at);
-        i += 1;
-    }
-}
-
-// The place of the next line.
-fn line(text: &[u8], at: usize) -> usize {
-    let next = cases::next_line(text, at);
-    if at < next {
+    while at < text.len() {
         if !cases::starts_remark(text, at) {
             case::run(text, at);
         }
+        at = cases::next_line(text, at);
     }
-    next
 }

@@ -17,29 +17,18 @@ returns : tie.Need-returns
 returns c =
     let s = c .before .before .before .before .before .before .before .before .before .before .before in
     let a = s .args in
-    refused (a .size) (now (a .pixels)) (now (a .taps)) (a .thresholds) (lent s) (now (a .map)) _ _ (c .before .before .shortest .ensures) (c .before .of-run .ensures) (c .if1 .taken)
+    refused (a .size) (now (a .pixels)) (now (a .taps)) (a .thresholds) (lent s) (now (a .map))
+    (c .before .before .shortest .ensures) (c .before .of-run .ensures) (c .if1 .taken)
 
 run-requires : tie.Need-run-requires
 run-requires c κs =
     let i = c .before .before .before .before .before .before .before .before in
     let s = i .before .before .before .before .before .before .before .before .before .before .before in
     let a = s .args in
-    sym (number (a .size) (now (a .pixels)) (now (a .taps)) (a .thresholds) (lent s) (now (a .map)) _ _ (i .before .before .shortest .ensures) (i .before .of-run .ensures)) ∙ i .if1 .left
-
-same-length : tie.Need-same-length
-same-length c = c .before .before .before .before .before .before .before .before .before .before .before .before .before .work .given
-
-same-length-2 : tie.Need-same-length-2
-same-length-2 c = c .before .before .before .before .before .before .before .before .before .before .before .magnitude .given
-
-same-length-3 : tie.Need-same-length-3
-same-length-3 c = c .before .before .before .before .before .before .before .before .before .gx .given
-
-same-length-4 : tie.Need-same-length-4
-same-length-4 c = c .before .before .before .before .before .before .before .before .gy .given
-
-same-length-5 : tie.Need-same-length-5
-same-length-5 c = c .before .before .before .before .before .before .before .blurred .given
+    sym
+    (number (a .size) (now (a .pixels)) (now (a .taps)) (a .thresholds) (lent s) (now (a .map)) (i .before .before .shortest .ensures)
+    (i .before .of-run .ensures))
+    ∙ i .if1 .left
 
 returns-2 : tie.Need-returns-2
 returns-2 c =
@@ -47,11 +36,16 @@ returns-2 c =
     let i = r .before .before .before .before .before .before .before .before .before in
     let s = i .before .before .before .before .before .before .before .before .before .before .before in
     let a = s .args in
-    made (a .size) (now (a .pixels)) (now (a .taps)) (a .thresholds) (lent s) (now (a .map)) _ _ (i .before .before .shortest .ensures) (i .before .of-run .ensures) _ _ (i .if1 .left) (r .run .ensures)
+    made (a .size) (now (a .pixels)) (now (a .taps)) (a .thresholds) (lent s) (now (a .map)) (i .before .before .shortest .ensures)
+    (i .before .of-run .ensures) (i .if1 .left) (r .run .ensures)
 
 pub canny-spec : {M : Type 1} → statement M
 canny-spec =
     tie.close
-    (tie.spec (λ c κs. search needs) (λ c κs. search needs) returns run-requires same-length same-length-2 same-length-3 same-length-4 same-length-5
-    (λ c. c .before .before .before .before .before .marks .given) (λ c. c .before .before .before .stack .given) (λ c. c .before .map .given)
-    returns-2)
+    (tie.spec (λ c κs. search needs) (λ c κs. search needs) returns run-requires
+    (λ c. c .before .before .before .before .before .before .before .before .before .before .before .before .before .work .given)
+    (λ c. c .before .before .before .before .before .before .before .before .before .before .before .magnitude .given)
+    (λ c. c .before .before .before .before .before .before .before .before .before .gx .given)
+    (λ c. c .before .before .before .before .before .before .before .before .gy .given)
+    (λ c. c .before .before .before .before .before .before .before .blurred .given)
+    (λ c. c .before .before .before .before .before .marks .given) (λ c. c .before .before .before .stack .given) (λ c. c .before .map .given) returns-2)

@@ -11,8 +11,8 @@ returns : tie.Need-returns
 returns c e =
     ⊎-elim
     (λ f.
-    ⊎-elim (λ g. let p = both _ _ g in zero-bits _ _ (eqb-true _ _ (p .0)) (eqb-true _ _ (p .1)))
-    (λ g. let p = both _ _ g in cap-bits _ _ (leb-true _ _ (p .0)) (eqb-true _ _ (p .1))) (either _ _ f))
+    ⊎-elim (λ g. let p = both _ _ g in zero-bits (eqb-true _ _ (p .0)) (eqb-true _ _ (p .1)))
+    (λ g. let p = both _ _ g in cap-bits (leb-true _ _ (p .0)) (eqb-true _ _ (p .1))) (either _ _ f))
     (c .are-root-bits .ensures) (either _ _ e)
 
 pub are-bits-spec : {M : Type 1} → statement M

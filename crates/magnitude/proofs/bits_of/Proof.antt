@@ -7,11 +7,7 @@ use Rattle.magnitude.proofs.Bits.{no-nan-le}
 use Rattle.magnitude.proofs.bits_of.Statement.{statement}
 use Rattle.magnitude.proofs.bits_of.Tie as tie
 
-returns : tie.Need-returns
-returns c n = ofBits-toBits binary32 _ (is-true (c .before .good .0 .1))
-
-returns-2 : tie.Need-returns-2
-returns-2 c n = absurd (n refl)
-
 pub bits-of-spec : {M : Type 1} → statement M
-bits-of-spec = tie.close (tie.spec (λ c. no-nan-le _ _ (c .if1 .taken)) returns returns-2)
+bits-of-spec =
+    tie.close
+    (tie.spec (λ c. no-nan-le _ _ (c .if1 .taken)) (λ c n. ofBits-toBits binary32 _ (is-true (c .before .good .0 .1))) (λ c n. absurd (n refl)))

@@ -6,8 +6,8 @@ use Rattle.rules.proofs.Computed.{at}
 use Rattle.magnitude.proofs.four_of.Statement.{statement}
 use Rattle.magnitude.proofs.four_of.Tie as tie
 
-returns : tie.Need-returns
-returns c = eqb→eq _ _ (at (λ i. eqb ((1 * 2 ^ (2 * i + 32)) % 18446744073709551616) (4 ^ (i + 16))) 8 tt (c .args .i) (c .pre))
-
 pub four-of-spec : {M : Type 1} → statement M
-four-of-spec = tie.close (tie.spec (λ c. search needs) (λ c. search needs) (λ c. search needs) (λ c. search needs) returns)
+four-of-spec =
+    tie.close
+    (tie.spec (λ c. search needs) (λ c. search needs) (λ c. search needs) (λ c. search needs)
+    (λ c. eqb→eq _ _ (at (λ i. eqb ((1 * 2 ^ (2 * i + 32)) % 18446744073709551616) (4 ^ (i + 16))) 8 tt (c .args .i) (c .pre))))

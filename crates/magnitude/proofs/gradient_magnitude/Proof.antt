@@ -1,6 +1,5 @@
 -- `gradient_magnitude` meets its contract: refused, or every magnitude. Assumes nothing.
 use native.Mathlib.Omega.{arith}
-use mathlib.Core.Path.{sym, _∙_}
 use denote.Ref.{now}
 use borrow.Author.Needs.{needs}
 use Rattle.rules.specs.Calls.{gradientMagnitude}
@@ -10,20 +9,13 @@ use Rattle.magnitude.proofs.gradient_magnitude.Statement.{statement}
 use Rattle.magnitude.proofs.gradient_magnitude.Tie as tie
 
 fit : (c : tie.Else1) → let a = c .before .before .before .before .args in Components (a .size) (now (a .gx)) (now (a .gy)) (now (a .magnitude))
-fit c = magnitude-fit _ _ _ _ (sym (c .before .of-magnitude .ensures) ∙ c .if1 .left)
-
-returns : tie.Need-returns
-unfolding gradientMagnitude
-returns c = refused-is _ _ (c .before .of-magnitude .ensures) _ (now (c .before .before .before .before .args .magnitude)) (c .if1 .taken)
-
-returns-2 : tie.Need-returns-2
-unfolding gradientMagnitude
-returns-2 c =
-    let e = c .before .before .before .before .before in
-    accepted-is _ _ (e .before .of-magnitude .ensures) _ (now (e .before .before .before .before .args .magnitude)) _ (e .if1 .left) (c .before .before .magnitudes .ensures)
+fit c = magnitude-fit (c .before .of-magnitude .ensures) (c .if1 .left)
 
 pub gradient-magnitude-spec : {M : Type 1} → statement M
+unfolding gradientMagnitude
 gradient-magnitude-spec =
     tie.close
-    (tie.spec (λ c κs. search needs) (λ c. search needs) returns (λ c. omega (arith, fit (c .before) .sides .small))
-    (λ c κs. let p = fit (c .before .before) in search needs) (λ c. search needs) returns-2)
+    (tie.spec (λ c κs. search needs) (λ c. search needs) (λ c. refused-is _ _ (c .before .of-magnitude .ensures) _ _ (c .if1 .taken))
+    (λ c. omega (arith, fit (c .before) .sides .small)) (λ c κs. let p = fit (c .before .before) in search needs) (λ c. search needs)
+    (λ c. let e = c .before .before .before .before .before in
+    accepted-is _ _ (e .before .of-magnitude .ensures) _ _ _ (e .if1 .left) (c .before .before .magnitudes .ensures)))

@@ -13,21 +13,15 @@ Inv-loop gx gy n magnitude₀ i₀ magnitude i = (i ≤ n) × (length magnitude 
 abbrev μ-loop : tie.MeasureT-loop
 μ-loop gx gy n magnitude₀ i₀ magnitude i = n - i
 
-loop-holds : tie.Need-loop-holds Inv-loop μ-loop
-loop-holds c = (zero≤, refl, refl)
-
 loop-again : tie.Need-loop-again Inv-loop μ-loop
 loop-again c =
     let e = c .before .before .before .before in
-    let l = e .before .loop in
-    let n = e .before .before .before .args .n in
-    (search needs, simp length-set (l .inv .1), drop-set-lt n (l .magnitude) (l .i) (c .guess .result) (e .loop-test .taken) ∙ l .inv .2)
-
-returns : tie.Need-returns Inv-loop μ-loop
-returns c = c .before .loop .inv .2
+    let l = e .before .loop .inv in
+    (search needs, simp length-set (l .1), drop-set-lt _ _ _ _ (e .loop-test .taken) ∙ l .2)
 
 pub guesses-spec : {M : Type 1} → statement M
 guesses-spec =
     tie.close
-    (tie.spec Inv-loop μ-loop loop-holds (λ c. search needs) (λ c. search needs) (λ c. search needs) (λ c. search needs) (λ c κs. search needs)
-    (λ c κs. search needs) (λ c. search needs) (λ c. search needs) (λ c. search needs) (λ c. search needs) loop-again (λ c. search needs) returns)
+    (tie.spec Inv-loop μ-loop (λ c. (zero≤, refl, refl)) (λ c. search needs) (λ c. search needs) (λ c. search needs) (λ c. search needs) (λ c κs. search needs)
+    (λ c κs. search needs) (λ c. search needs) (λ c. search needs) (λ c. search needs) (λ c. search needs) loop-again (λ c. search needs)
+    (λ c. c .before .loop .inv .2))

@@ -7,11 +7,8 @@ use Rattle.magnitude.proofs.Testing.{reaches, product-fits}
 use Rattle.magnitude.proofs.is_near.Statement.{statement}
 use Rattle.magnitude.proofs.is_near.Tie as tie
 
-returns : tie.Need-returns
-returns c e = let p = both _ _ e in reaches (c .args .t) (c .args .m) (eqb-true _ _ (p .0)) (ltb-true _ _ (p .1))
-
 pub is-near-spec : {M : Type 1} → statement M
 is-near-spec =
     tie.close
-    (tie.spec (λ c. search needs) (λ c. search needs) (λ c. omega (arith, product-fits (c .args .m) (c .pre)))
-    (λ c. omega (arith, product-fits (c .args .m) (c .pre))) (λ c. search needs) (λ c. search needs) returns)
+    (tie.spec (λ c. search needs) (λ c. search needs) (λ c. omega (arith, product-fits (c .pre))) (λ c. omega (arith, product-fits (c .pre)))
+    (λ c. search needs) (λ c. search needs) (λ c e. let p = both _ _ e in reaches (eqb-true _ _ (p .0)) (ltb-true _ _ (p .1))))

@@ -6,17 +6,10 @@ use Rattle.magnitude.proofs.Mending.{cap-is}
 use Rattle.magnitude.proofs.magnitude_of.Statement.{statement}
 use Rattle.magnitude.proofs.magnitude_of.Tie as tie
 
-returns : tie.Need-returns
-unfolding magnitudeOf
-returns c = rw (eq-eqb _ _ (c .if1 .taken))
-
-returns-2 : tie.Need-returns-2
-unfolding magnitudeOf
-returns-2 c = rw (ne-eqb _ _ (c .before .before .before .if1 .left), lt-leb _ _ (c .before .before .if2 .taken)) (c .root-from .ensures)
-
-returns-3 : tie.Need-returns-3
-unfolding magnitudeOf
-returns-3 c = rw (ne-eqb _ _ (c .before .if1 .left), le-leb _ _ (c .if2 .left)) cap-is
-
 pub magnitude-of-spec : {M : Type 1} → statement M
-magnitude-of-spec = tie.close (tie.spec returns (λ c κs. search needs) (λ c κs. search needs) returns-2 returns-3)
+unfolding magnitudeOf
+magnitude-of-spec =
+    tie.close
+    (tie.spec (λ c. rw (eq-eqb _ _ (c .if1 .taken))) (λ c κs. search needs) (λ c κs. search needs)
+    (λ c. rw (ne-eqb _ _ (c .before .before .before .if1 .left), lt-leb _ _ (c .before .before .if2 .taken)) (c .root-from .ensures))
+    (λ c. rw (ne-eqb _ _ (c .before .if1 .left), le-leb _ _ (c .if2 .left)) cap-is))

@@ -6,12 +6,13 @@ use Rattle.magnitude.proofs.magnitudes.Statement.{statement}
 use Rattle.magnitude.proofs.magnitudes.Tie as tie
 
 returns : tie.Need-returns
-returns c = filled-by _ _ _ _ _ (omega (arith, c .before .before .before .before .magnitude .given)) (c .before .are-magnitudes .ensures (c .if1 .taken)) (c .before .before .before .before .before .guesses .ensures)
-
-returns-2 : tie.Need-returns-2
-returns-2 c = rw (c .before .before .before .before .before .before .before .before .before .guesses .ensures) at (c .before .before .one-by-one .ensures)
+returns c =
+    let g = c .before .before .before .before in
+    filled-by _ _ _ _ _ (omega (arith, g .magnitude .given)) (c .before .are-magnitudes .ensures (c .if1 .taken)) (g .before .guesses .ensures)
 
 pub magnitudes-spec : {M : Type 1} → statement M
 magnitudes-spec =
     tie.close
-    (tie.spec (λ c κs. search needs) (λ c κs. search needs) (λ c. search needs) returns (λ c κs. search needs) (λ c. search needs) returns-2)
+    (tie.spec (λ c κs. search needs) (λ c κs. search needs) (λ c. search needs) returns (λ c κs. search needs) (λ c. search needs)
+    (λ c. let e = c .before .before .before .before in
+    rw (e .before .before .before .before .before .guesses .ensures) at (c .before .before .one-by-one .ensures)))

@@ -19,18 +19,6 @@ Inv-loop2 t g m₀ m = (m < 2 ^ 24) × (t ≤ m * m + m)
 abbrev μ-loop2 : tie.MeasureT-loop2
 μ-loop2 t g m₀ m = m
 
-loop-again : tie.Need-loop-again Inv-loop μ-loop Inv-loop2 μ-loop2
-loop-again c = more-fits (c .before .loop .m) (c .before .before .args .t) (c .before .loop .inv) (c .before .before .pre .high) (c .loop-test .taken)
-
-sub-m : tie.Need-sub-m Inv-loop μ-loop Inv-loop2 μ-loop2
-sub-m c = some (c .before .loop2 .m) _ (c .loop2-test .taken) (omega arith)
-
-loop2-less : tie.Need-loop2-less Inv-loop μ-loop Inv-loop2 μ-loop2
-loop2-less c = let h : 0 < c .before .loop2 .m = some (c .before .loop2 .m) _ (c .loop2-test .taken) (omega arith) in omega arith
-
-loop2-again : tie.Need-loop2-again Inv-loop μ-loop Inv-loop2 μ-loop2
-loop2-again c = (search needs, less-reaches (c .before .loop2 .m) (c .before .before .before .before .args .t) (omega arith) (c .loop2-test .taken))
-
 returns : tie.Need-returns Inv-loop μ-loop Inv-loop2 μ-loop2
 returns c =
     let t = c .before .before .before .before .args .t in
@@ -40,5 +28,8 @@ pub mend-spec : {M : Type 1} → statement M
 mend-spec =
     tie.close
     (tie.spec Inv-loop μ-loop Inv-loop2 μ-loop2 (λ c. search needs) (λ c. omega (arith, square-fits (c .loop .m) (c .loop .inv)))
-    (λ c. omega (arith, square-fits (c .loop .m) (c .loop .inv))) (λ c. search needs) (λ c. search needs) loop-again (λ c. search needs)
-    (λ c. search needs) (λ c. omega (arith, square-fits (c .loop2 .m) (c .loop2 .inv .0))) sub-m loop2-less loop2-again returns)
+    (λ c. omega (arith, square-fits (c .loop .m) (c .loop .inv))) (λ c. search needs) (λ c. search needs)
+    (λ c. more-fits (c .before .loop .inv) (c .before .before .pre .high) (c .loop-test .taken)) (λ c. search needs) (λ c. search needs)
+    (λ c. omega (arith, square-fits (c .loop2 .m) (c .loop2 .inv .0)))
+    (λ c. some _ (c .loop2-test .taken) (omega arith)) (λ c. omega (arith, some _ (c .loop2-test .taken) (omega arith)))
+    (λ c. (search needs, less-reaches _ _ (omega arith) (c .loop2-test .taken))) returns)

@@ -4,11 +4,9 @@ use Rattle.nine.proofs.Halving.{at-first}
 use Rattle.nine.proofs.byte_by.Statement.{statement}
 use Rattle.nine.proofs.byte_by.Tie as tie
 
-returns : tie.Need-returns
-returns c = search needs
-
 pub byte-by-spec : {M : Type 1} → statement M
 byte-by-spec =
     tie.close
     (tie.spec (λ c κs. let a = at-first (c .before .args .s) in search needs) (λ c κs. search needs) (λ c κs. search needs) (λ c κs. search needs)
-    (λ c κs. search needs) (λ c κs. search needs) (λ c κs. search needs) (λ c κs. search needs) (λ c. search needs) returns)
+    (λ c κs. search needs) (λ c κs. search needs) (λ c κs. search needs) (λ c κs. search needs) (λ c. search needs)
+    (λ c. search needs))

@@ -5,8 +5,6 @@ use Rattle.rules.specs.Root.{sobelByte}
 use Rattle.nine.proofs.byte_of.Statement.{statement}
 use Rattle.nine.proofs.byte_of.Tie as tie
 
-returns : tie.Need-returns
-returns c = c .root-byte .ensures ∙ ap sobelByte (c .before .energy-of .ensures)
-
 pub byte-of-spec : {M : Type 1} → statement M
-byte-of-spec = tie.close (tie.spec (λ c κs. search needs) (λ c κs. search needs) returns)
+byte-of-spec =
+    tie.close (tie.spec (λ c κs. search needs) (λ c κs. search needs) (λ c. c .root-byte .ensures ∙ ap sobelByte (c .before .energy-of .ensures)))

@@ -6,8 +6,6 @@ use Rattle.rules.proofs.Roots.{byte-over}
 use Rattle.nine.proofs.capped.Statement.{statement}
 use Rattle.nine.proofs.capped.Tie as tie
 
-returns-2 : tie.Need-returns-2
-returns-2 c = sym (byte-over 65535 (omega arith)) ∙ byte-over (c .before .args .s) (omega arith)
-
 pub capped-spec : {M : Type 1} → statement M
-capped-spec = tie.close (tie.spec (λ c. search needs) (λ c. search needs) returns-2)
+capped-spec =
+    tie.close (tie.spec (λ c. search needs) (λ c. search needs) (λ c. sym (byte-over 65535 (omega arith)) ∙ byte-over (c .before .args .s) (omega arith)))

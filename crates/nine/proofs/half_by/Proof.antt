@@ -14,17 +14,9 @@ use Rattle.nine.proofs.half_by.Tie as tie
 between : (s : tie.Start) → let a = s .args in getD (now (a .ends)) (a .n + a .b - 1) 0 ≡ upperEnd (a .n + a .b - 1)
 between s = s .pre .0 .each _ (omega arith)
 
-returns : tie.Need-returns
-returns c =
-    let s = c .before .before in
-    let a = s .args in
-    upper (a .s) (a .n) (a .b) (s .pre .1) (omega (arith, between s, c .if1 .taken))
-
-returns-2 : tie.Need-returns-2
-returns-2 c =
-    let s = c .before .before in
-    let a = s .args in
-    lower (a .s) (a .n) (a .b) (s .pre .1) (omega (arith, between s, c .if1 .left))
-
 pub half-by-spec : {M : Type 1} → statement M
-half-by-spec = tie.close (tie.spec (λ c. search needs) (λ c. search needs) (λ c. search needs) (λ c. search needs) returns returns-2)
+half-by-spec =
+    tie.close
+    (tie.spec (λ c. search needs) (λ c. search needs) (λ c. search needs) (λ c. search needs)
+    (λ c. upper (c .before .before .pre .1) (omega (arith, between (c .before .before), c .if1 .taken)))
+    (λ c. lower (c .before .before .pre .1) (omega (arith, between (c .before .before), c .if1 .left))))

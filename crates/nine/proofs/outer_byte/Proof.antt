@@ -5,8 +5,6 @@ use Rattle.rules.specs.Root.{sobelByte}
 use Rattle.nine.proofs.outer_byte.Statement.{statement}
 use Rattle.nine.proofs.outer_byte.Tie as tie
 
-returns : tie.Need-returns
-returns c = c .sobel-byte .ensures ∙ ap sobelByte (c .before .energy-of .ensures)
-
 pub outer-byte-spec : {M : Type 1} → statement M
-outer-byte-spec = tie.close (tie.spec (λ c κs. search needs) (λ c κs. search needs) returns)
+outer-byte-spec =
+    tie.close (tie.spec (λ c κs. search needs) (λ c κs. search needs) (λ c. c .sobel-byte .ensures ∙ ap sobelByte (c .before .energy-of .ensures)))

@@ -4,11 +4,9 @@ use Rattle.nine.proofs.Halving.{at-first}
 use Rattle.nine.proofs.root_byte.Statement.{statement}
 use Rattle.nine.proofs.root_byte.Tie as tie
 
-returns : tie.Need-returns
-returns c = search needs
-
 pub root-byte-spec : {M : Type 1} → statement M
 root-byte-spec =
     tie.close
     (tie.spec (λ c κs. search needs) (λ c κs. let a = at-first (c .capped .result) in search needs) (λ c κs. search needs) (λ c κs. search needs)
-    (λ c κs. search needs) (λ c κs. search needs) (λ c κs. search needs) (λ c κs. search needs) (λ c κs. search needs) (λ c. search needs) returns)
+    (λ c κs. search needs) (λ c κs. search needs) (λ c κs. search needs) (λ c κs. search needs) (λ c κs. search needs) (λ c. search needs)
+    (λ c. search needs))

@@ -3,7 +3,6 @@ use mathlib.Core.Path.{_≡_, sym, subst}
 use mathlib.Core.Bool.{true, not}
 use lib.Dec.{T}
 use lib.Ieee.{Float, nan, inf, fin, eq, isNan}
-use borrow.Author.Needs.{needs}
 use Rattle.report.proofs.bits.Statement.{statement}
 use Rattle.report.proofs.bits.Tie as tie
 

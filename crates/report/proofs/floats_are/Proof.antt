@@ -1,38 +1,25 @@
 -- `floats_are` meets its contract: its test so far, entry by entry. Assumes nothing.
-use borrow.Author.Needs.{needs, zero≤}
-use mathlib.Core.Path.{_≡_, refl}
-use denote.Ref.{now}
+use borrow.Author.Needs.{needs}
+use Prim.Native.Nat.{_-_}
 use lib.Dec.{eqb}
-use lib.Ieee.{nan}
-use native.Mathlib.Omega.{arith}
-use Rattle.report.specs.Tests.{every, shownBits}
-use Rattle.report.proofs.Every.{every-more}
-use Prim.Native.Nat.{_≤_, _-_}
 use lib.ListN.{length, getD}
+use lib.Ieee.{nan}
+use Rattle.report.specs.Tests.{shownBits}
+use Rattle.report.proofs.Every.{Tested, tested-start, tested-more, tested-end}
 use Rattle.report.proofs.floats_are.Statement.{statement}
 use Rattle.report.proofs.floats_are.Tie as tie
 
 abbrev Inv-loop : tie.InvT-loop
-Inv-loop buffer v same₀ i₀ same i = (i ≤ length buffer) × (same ≡ every (λ j. eqb (shownBits (getD buffer j nan)) (shownBits v)) i)
+Inv-loop buffer v same₀ i₀ same i = Tested (length buffer) i (λ j. eqb (shownBits (getD buffer j nan)) (shownBits v)) same
 
 abbrev μ-loop : tie.MeasureT-loop
 μ-loop buffer v same₀ i₀ same i = length buffer - i
 
-loop-holds : tie.Need-loop-holds Inv-loop μ-loop
-unfolding every
-loop-holds c = (zero≤, refl)
-
 loop-again : tie.Need-loop-again Inv-loop μ-loop
-loop-again c = (search needs, every-more _ _ _ _ (c .before .before .before .before .loop .inv .1) (rw (c .before .bits .ensures, c .bits2 .ensures)))
-
-returns : tie.Need-returns Inv-loop μ-loop
-returns c =
-    let l = c .before .loop in
-    let e : l .i ≡ length (now (c .before .before .before .args .buffer)) = omega arith in
-    rw e at (l .inv .1)
+loop-again c = tested-more (c .before .before .before .loop-test .taken) (c .before .before .before .before .loop .inv) (rw (c .before .bits .ensures, c .bits2 .ensures))
 
 pub floats-are-spec : {M : Type 1} → statement M
 floats-are-spec =
     tie.close
-    (tie.spec Inv-loop μ-loop loop-holds (λ c. search needs) (λ c. search needs) (λ c κs. search needs) (λ c κs. search needs) (λ c. search needs)
-    (λ c. search needs) loop-again returns)
+    (tie.spec Inv-loop μ-loop (λ c. tested-start) (λ c. search needs) (λ c. search needs) (λ c κs. search needs) (λ c κs. search needs)
+    (λ c. search needs) (λ c. search needs) loop-again (λ c. tested-end (c .before .loop .inv) (c .loop-test .left)))

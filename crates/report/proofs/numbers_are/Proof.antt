@@ -1,39 +1,27 @@
 -- `numbers_are` meets its contract: its test so far, entry by entry. Assumes nothing.
-use borrow.Author.Needs.{needs, zero≤}
-use mathlib.Core.Path.{_≡_, refl}
-use denote.Ref.{now}
+use borrow.Author.Needs.{needs}
+use mathlib.Core.Path.{refl}
+use Prim.Native.Nat.{_-_}
 use lib.Dec.{eqb}
+use lib.ListN.{length, getD}
+use lib.IntN.{pos}
 use mir.Syntax.{w16}
 use mir.Val.{ofZ}
-use lib.IntN.{pos}
-use native.Mathlib.Omega.{arith}
-use Rattle.report.specs.Tests.{every}
-use Rattle.report.proofs.Every.{every-more}
-use Prim.Native.Nat.{_≤_, _-_}
-use lib.ListN.{length, getD}
+use Rattle.report.proofs.Every.{Tested, tested-start, tested-more, tested-end}
 use Rattle.report.proofs.numbers_are.Statement.{statement}
 use Rattle.report.proofs.numbers_are.Tie as tie
 
 abbrev Inv-loop : tie.InvT-loop
-Inv-loop buffer v same₀ i₀ same i = (i ≤ length buffer) × (same ≡ every (λ j. eqb (ofZ w16 (getD buffer j (pos 0))) v) i)
+Inv-loop buffer v same₀ i₀ same i = Tested (length buffer) i (λ j. eqb (ofZ w16 (getD buffer j (pos 0))) v) same
 
 abbrev μ-loop : tie.MeasureT-loop
 μ-loop buffer v same₀ i₀ same i = length buffer - i
 
-loop-holds : tie.Need-loop-holds Inv-loop μ-loop
-unfolding every
-loop-holds c = (zero≤, refl)
-
 loop-again : tie.Need-loop-again Inv-loop μ-loop
-loop-again c = (search needs, every-more _ _ _ _ (c .before .before .loop .inv .1) refl)
-
-returns : tie.Need-returns Inv-loop μ-loop
-returns c =
-    let l = c .before .loop in
-    let e : l .i ≡ length (now (c .before .before .args .buffer)) = omega arith in
-    rw e at (l .inv .1)
+loop-again c = tested-more (c .before .loop-test .taken) (c .before .before .loop .inv) refl
 
 pub numbers-are-spec : {M : Type 1} → statement M
 numbers-are-spec =
     tie.close
-    (tie.spec Inv-loop μ-loop loop-holds (λ c. search needs) (λ c. search needs) (λ c. search needs) (λ c. search needs) loop-again returns)
+    (tie.spec Inv-loop μ-loop (λ c. tested-start) (λ c. search needs) (λ c. search needs) (λ c. search needs) (λ c. search needs) loop-again
+    (λ c. tested-end (c .before .loop .inv) (c .loop-test .left)))

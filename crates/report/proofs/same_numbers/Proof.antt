@@ -1,23 +1,20 @@
 -- `same_numbers` meets its contract: its test so far, entry by entry, once the lengths are the same. Assumes nothing.
-use borrow.Author.Needs.{needs, zero≤}
+use borrow.Author.Needs.{needs}
 use borrow.Author.Tests.{eq-eqb, ne-eqb}
-use mathlib.Core.Path.{_≡_, refl}
-use native.Mathlib.Omega.{arith}
-use Prim.Native.Nat.{_≤_, _-_}
-use denote.Ref.{now}
+use mathlib.Core.Path.{refl}
+use Prim.Native.Nat.{_-_}
 use lib.Dec.{eqb}
+use lib.ListN.{length, getD}
 use lib.IntN.{pos}
 use mir.Syntax.{w16}
 use mir.Val.{ofZ}
-use lib.ListN.{length, getD}
-use Rattle.report.specs.Tests.{every, alike}
-use Rattle.report.proofs.Every.{every-more}
+use Rattle.report.specs.Tests.{alike}
+use Rattle.report.proofs.Every.{Tested, tested-start, tested-more, tested-end}
 use Rattle.report.proofs.same_numbers.Statement.{statement}
 use Rattle.report.proofs.same_numbers.Tie as tie
 
 abbrev Inv-loop : tie.InvT-loop
-Inv-loop got wanted same₀ i₀ same i =
-    (length got ≡ length wanted) × ((i ≤ length got) × (same ≡ every (λ j. eqb (ofZ w16 (getD got j (pos 0))) (ofZ w16 (getD wanted j (pos 0)))) i))
+Inv-loop got wanted same₀ i₀ same i = Tested (length got) i (λ j. eqb (ofZ w16 (getD got j (pos 0))) (ofZ w16 (getD wanted j (pos 0)))) same
 
 abbrev μ-loop : tie.MeasureT-loop
 μ-loop got wanted same₀ i₀ same i = length got - i
@@ -26,24 +23,15 @@ returns : tie.Need-returns Inv-loop μ-loop
 unfolding alike
 returns c = rw (ne-eqb _ _ (c .if1 .taken))
 
-loop-holds : tie.Need-loop-holds Inv-loop μ-loop
-unfolding every
-loop-holds c = (c .if1 .left, (zero≤, refl))
-
 loop-again : tie.Need-loop-again Inv-loop μ-loop
-loop-again c =
-    let l = c .before .before .before .loop in
-    (l .inv .0, (search needs, every-more _ _ _ _ (l .inv .1 .1) refl))
+loop-again c = tested-more (c .before .before .loop-test .taken) (c .before .before .before .loop .inv) refl
 
 returns-2 : tie.Need-returns-2 Inv-loop μ-loop
 unfolding alike
-returns-2 c =
-    let l = c .before .loop in
-    let e : l .i ≡ length (now (c .before .before .before .args .got)) = omega arith in
-    rw (eq-eqb _ _ (l .inv .0)) (rw e at (l .inv .1 .1))
+returns-2 c = rw (eq-eqb _ _ (c .before .before .if1 .left)) (tested-end (c .before .loop .inv) (c .loop-test .left))
 
 pub same-numbers-spec : {M : Type 1} → statement M
 same-numbers-spec =
     tie.close
-    (tie.spec Inv-loop μ-loop returns loop-holds (λ c. search needs) (λ c. search needs) (λ c. search needs)
-    (λ c. omega (arith, c .before .before .loop .inv .0)) (λ c. search needs) (λ c. search needs) loop-again returns-2)
+    (tie.spec Inv-loop μ-loop returns (λ c. tested-start) (λ c. search needs) (λ c. search needs) (λ c. search needs) (λ c. search needs)
+    (λ c. search needs) (λ c. search needs) loop-again returns-2)

@@ -2,7 +2,6 @@
 use borrow.Author.Needs.{needs}
 use native.Mathlib.Omega.{arith}
 use mathlib.Core.Path.{ap₂, _∙_}
-use denote.Ref.{now}
 use Rattle.border.specs.Reading.{readIn}
 use Rattle.border.proofs.Reading.{read-is}
 use Rattle.sobel.proofs.sample.Statement.{statement}
@@ -10,22 +9,13 @@ use Rattle.sobel.proofs.sample.Tie as tie
 
 returns : tie.Need-returns
 returns c =
-    let s = c .before .before .before .before in
-    let a = s .args in
-    let p = s .pre .0 in
+    let p = c .before .before .before .before .pre .0 in
     c .read .ensures
-    ∙ ap₂ (readIn (now (a .pixels)) (a .size)) (c .before .before .place .ensures) (c .before .place2 .ensures)
-    ∙ read-is (a .size) (now (a .pixels)) (p .picture) (a .border) _ _ (omega (arith, p .column)) (omega (arith, p .row))
+    ∙ ap₂ (readIn _ _) (c .before .before .place .ensures) (c .before .place2 .ensures)
+    ∙ read-is _ _ (p .picture) _ _ _ (omega (arith, p .column)) (omega (arith, p .row))
 
 pub sample-spec : {M : Type 1} → statement M
 sample-spec =
     tie.close
-    (tie.spec
-    (λ c. search needs)
-    (λ c. search needs)
-    (λ c κs. search needs)
-    (λ c. search needs)
-    (λ c. search needs)
-    (λ c κs. search needs)
-    (λ c κs. search needs)
-    returns)
+    (tie.spec (λ c. search needs) (λ c. search needs) (λ c κs. search needs) (λ c. search needs) (λ c. search needs) (λ c κs. search needs)
+    (λ c κs. search needs) returns)

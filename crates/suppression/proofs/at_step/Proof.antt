@@ -4,9 +4,9 @@ use Rattle.suppression.specs.Steps.{atStep}
 use Rattle.suppression.proofs.at_step.Statement.{statement}
 use Rattle.suppression.proofs.at_step.Tie as tie
 
-returns : tie.Need-returns
-unfolding atStep
-returns c = rw (c .pick3 .ensures, c .before .pick2 .ensures, c .before .before .pick .ensures)
-
 pub at-step-spec : {M : Type 1} → statement M
-at-step-spec = tie.close (tie.spec (λ c κs. search needs) (λ c κs. search needs) (λ c κs. search needs) returns)
+unfolding atStep
+at-step-spec =
+    tie.close
+    (tie.spec (λ c κs. search needs) (λ c κs. search needs) (λ c κs. search needs)
+    (λ c. rw (c .pick3 .ensures, c .before .pick2 .ensures, c .before .before .pick .ensures)))

@@ -1,65 +1,50 @@
 -- `suppress_row` meets its contract: a filling loop between two single stores. Assumes nothing.
 use borrow.Author.Needs.{needs}
+use borrow.Author.Tests.{lt-ltb, le-ltb}
 use native.Mathlib.Omega.{arith}
-use Prim.Native.Nat.{ℕ, _+_, _-_, _<_}
+use Prim.Native.Nat.{_-_, _<_}
 use mathlib.Core.Path.{_≡_, refl}
+use mathlib.Core.Bool.{and-false}
 use denote.Ref.{now}
+use lib.Dec.{ltb}
 use lib.ListN.{length, set, length-set}
-use lib.Ieee.{Float}
 use Rattle.rules.specs.Picture.{filled}
 use Rattle.rules.specs.Sums.{plusZero}
+use Rattle.rules.proofs.Fill.{Filling, filling-more, fill-start, fill-more}
 use Rattle.suppression.specs.Steps.{rowAt}
-use Rattle.rules.proofs.Fill.{fill-start, fill-more, still, onward}
-use Rattle.suppression.proofs.Neighbours.{first-is, last-is, between-is}
+use Rattle.suppression.proofs.Neighbours.{filling-on, filling-whole}
 use Rattle.suppression.proofs.suppress_row.Statement.{statement}
 use Rattle.suppression.proofs.suppress_row.Tie as tie
 
 abbrev Inv-loop : tie.InvT-loop
 Inv-loop magnitude gx gy start out₀ width x₀ out x =
-    (0 < x) × (x < width) × (width ≡ length out₀) × (length out ≡ length out₀) × (out ≡ filled x (rowAt width magnitude gx gy start) out₀)
+    (0 < x) × (x < width) × (width ≡ length out₀) × Filling width x (rowAt width magnitude gx gy start) out₀ out
 
 abbrev μ-loop : tie.MeasureT-loop
 μ-loop magnitude gx gy start out₀ width x₀ out x = width - x
 
--- what the row becomes
-abbrev row : tie.Start Inv-loop μ-loop → ℕ → Float
-row s = let a = s .args in rowAt (length (now (a .out))) (now (a .magnitude)) (now (a .gx)) (now (a .gy)) (a .start)
-
 -- after the first store
-opened : (c : tie.After-slice-known Inv-loop μ-loop) → let s = c .before .before in let a = s .args in set (now (a .out)) 0 plusZero ≡ filled 1 (row s) (now (a .out))
-opened c =
-    let s = c .before .before in let a = s .args in
-    fill-more 0 (row s) (now (a .out)) (now (a .out)) plusZero (omega arith) (fill-start (row s) (now (a .out))) (first-is (length (now (a .out))) _ _ _ _)
+opened : (c : tie.After-slice-known Inv-loop μ-loop) → let a = c .before .before .args in
+    set (now (a .out)) 0 plusZero ≡ filled 1 (rowAt (length (now (a .out))) (now (a .magnitude)) (now (a .gx)) (now (a .gy)) (a .start)) (now (a .out))
+unfolding rowAt
+opened c = fill-more 0 _ (now (c .before .before .args .out)) _ plusZero (omega arith) (fill-start _ _) refl
 
 loop-holds : tie.Need-loop-holds Inv-loop μ-loop
-loop-holds c =
-    let s = c .before .before in let a = s .args in
-    (search needs, omega arith, simp length-set, refl, still 1 (row s) (now (a .out)) _ (opened c))
+loop-holds c = (search needs, omega arith, simp length-set, filling-on 1 (now (c .before .before .args .out)) (omega arith) (opened c))
 
 loop-again : tie.Need-loop-again Inv-loop μ-loop
+unfolding rowAt
 loop-again c =
-    let l = c .before .before .loop in
-    let s = c .before .before .before .before .before in
-    let a = s .args in
-    let h : l .x < length (set (now (a .out)) 0 plusZero) = omega arith in (
-      search needs,
-      search needs,
-      l .inv .2,
-      simp length-set (omega arith),
-      fill-more (l .x) (row s) (set (now (a .out)) 0 plusZero) (l .out) _ h (l .inv .4)
-          (between-is (length (now (a .out))) _ _ _ _ (l .x) _ (l .inv .0) (c .before .loop-test .taken) (c .suppressed .ensures)),
-    )
+    let l = c .before .before .loop .inv in
+    let t = c .before .loop-test .taken in
+    (search needs, t, l .2, filling-more (omega arith) (l .1) (l .3) (rw (lt-ltb _ _ (l .0), lt-ltb _ _ t) (c .suppressed .ensures)))
 
 returns : tie.Need-returns Inv-loop μ-loop
+unfolding rowAt
 returns c =
     let l = c .before .loop in
-    let s = c .before .before .before .before in
-    let a = s .args in
-    let o = set (now (a .out)) 0 plusZero in
-    let h : l .x < length o = omega arith in
-    let e : l .x + 1 ≡ length (now (a .out)) = omega arith in
-    let f = fill-more (l .x) (row s) o (l .out) plusZero h (l .inv .4) (last-is (length (now (a .out))) _ _ _ _ (l .x) (c .loop-test .left)) in
-    onward 1 (length (now (a .out))) (row s) (now (a .out)) o _ (omega arith) (opened (c .before .before)) (rw e at f)
+    let last = filling-more {v = plusZero} (omega arith) (l .inv .1) (l .inv .3) (rw (le-ltb _ _ (c .loop-test .left), and-false (ltb 0 (l .x)))) in
+    filling-whole 1 _ (omega arith) (opened (c .before .before)) last (c .loop-test .left)
 
 pub suppress-row-spec : {M : Type 1} → statement M
 suppress-row-spec =

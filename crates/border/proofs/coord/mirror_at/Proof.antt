@@ -12,28 +12,16 @@ use Rattle.border.proofs.Resolving.{mirror-in, mirror-out}
 use Rattle.border.proofs.coord.mirror_at.Statement.{statement}
 use Rattle.border.proofs.coord.mirror_at.Tie as tie
 
-returns : tie.Need-returns
-returns c = rw (eq-eqb _ _ (c .if1 .taken))
-
 -- what the call gave, of the coordinate itself: a signed argument goes by its bits
 given : (c : tie.After-wrap) → c .wrap .result ≡ emod (c .before .before .args .c) (2 * (c .before .before .args .side - 1))
-given c = let s = c .before .before in rw (toZ-ofZ w64 (s .args .c) (s .fits .c)) at (c .wrap .ensures)
+given c = rw (toZ-ofZ w64 _ (c .before .before .fits .c)) at (c .wrap .ensures)
 
 sub-result : tie.Need-sub-result
-sub-result c =
-    let s = c .before .before .before in
-    omega (arith, given (c .before), emod-lt (s .args .c) (2 * (s .args .side - 1)) (omega arith))
-
-returns-2 : tie.Need-returns-2
-returns-2 c =
-    let s = c .before .before .before in
-    mirror-in (s .args .c) (s .args .side) _ (c .before .before .if1 .left) (given (c .before)) (c .if2 .taken)
-
-returns-3 : tie.Need-returns-3
-returns-3 c =
-    let s = c .before .before .before in
-    mirror-out (s .args .c) (s .args .side) _ (c .before .before .if1 .left) (given (c .before)) (c .if2 .left)
+sub-result c = let a = c .before .before .before .args in omega (arith, given (c .before), emod-lt (a .c) (2 * (a .side - 1)) (omega arith))
 
 pub mirror-at-spec : {M : Type 1} → statement M
 mirror-at-spec =
-    tie.close (tie.spec returns (λ c. search needs) (λ c. search needs) (λ c κs. search needs) sub-result returns-2 returns-3)
+    tie.close
+    (tie.spec (λ c. rw (eq-eqb _ _ (c .if1 .taken))) (λ c. search needs) (λ c. search needs) (λ c κs. search needs) sub-result
+    (λ c. mirror-in (c .before .before .before .args .c) (c .before .before .if1 .left) (given (c .before)) (c .if2 .taken))
+    (λ c. mirror-out (c .before .before .before .args .c) (c .before .before .if1 .left) (given (c .before)) (c .if2 .left)))

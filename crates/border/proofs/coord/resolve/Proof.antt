@@ -7,31 +7,10 @@ use Rattle.rules.specs.declared.Coord.the-variants.{At}
 use Rattle.border.proofs.coord.resolve.Statement.{statement}
 use Rattle.border.proofs.coord.resolve.Tie as tie
 
-returns : tie.Need-returns
-returns c =
-    let s = c .before .before .before in
-    rw (c .before .enum-told .given .1) (rw (toZ-ofZ w64 (s .args .c) (s .fits .c)) at (c .zero-at .ensures))
-
-returns-2 : tie.Need-returns-2
-returns-2 c =
-    let s = c .before .before .before in
-    rw (c .before .enum-told2 .given .1) (ap At (rw (toZ-ofZ w64 (s .args .c) (s .fits .c)) at (c .clamp-at .ensures)))
-
-returns-3 : tie.Need-returns-3
-returns-3 c =
-    let s = c .before .before .before in
-    rw (c .before .enum-told3 .given .1) (ap At (rw (toZ-ofZ w64 (s .args .c) (s .fits .c)) at (c .mirror-at .ensures)))
-
 pub resolve-spec : {M : Type 1} → statement M
 resolve-spec =
     tie.close
-    (tie.spec
-    (λ c. search needs)
-    (λ c κs. search needs)
-    (λ c. search needs)
-    (λ c κs. search needs)
-    (λ c. search needs)
-    (λ c κs. search needs)
-    returns
-    returns-2
-    returns-3)
+    (tie.spec (λ c. search needs) (λ c κs. search needs) (λ c. search needs) (λ c κs. search needs) (λ c. search needs) (λ c κs. search needs)
+    (λ c. rw (c .before .enum-told .given .1) (rw (toZ-ofZ w64 _ (c .before .before .before .fits .c)) at (c .zero-at .ensures)))
+    (λ c. rw (c .before .enum-told2 .given .1) (ap At (rw (toZ-ofZ w64 _ (c .before .before .before .fits .c)) at (c .clamp-at .ensures))))
+    (λ c. rw (c .before .enum-told3 .given .1) (ap At (rw (toZ-ofZ w64 _ (c .before .before .before .fits .c)) at (c .mirror-at .ensures)))))

@@ -9,21 +9,10 @@ use Rattle.rules.specs.Calls.{resolveCoord}
 use Rattle.border.proofs.coord.resolve_coord.Statement.{statement}
 use Rattle.border.proofs.coord.resolve_coord.Tie as tie
 
-returns : tie.Need-returns
-unfolding resolveCoord
-returns c = simp (eq-eqb _ _ (c .if1 .taken))
-
-returns-2 : tie.Need-returns-2
-unfolding resolveCoord
-returns-2 c = simp (ne-eqb _ _ (c .before .if1 .left), lt-ltb _ _ (c .if2 .taken))
-
-returns-3 : tie.Need-returns-3
-unfolding resolveCoord
-returns-3 c =
-    let e = c .before in
-    let s = e .before .before in
-    simp (ne-eqb _ _ (e .before .if1 .left), le-ltb _ _ (e .if2 .left))
-    (ap coordSays (rw (toZ-ofZ w64 (s .args .coord) (s .fits .coord)) at (c .resolve .ensures)))
-
 pub resolve-coord-spec : {M : Type 1} → statement M
-resolve-coord-spec = tie.close (tie.spec returns returns-2 (λ c κs. search needs) returns-3)
+unfolding resolveCoord
+resolve-coord-spec =
+    tie.close
+    (tie.spec (λ c. simp (eq-eqb _ _ (c .if1 .taken))) (λ c. simp (ne-eqb _ _ (c .before .if1 .left), lt-ltb _ _ (c .if2 .taken))) (λ c κs. search needs)
+    (λ c. simp (ne-eqb _ _ (c .before .before .if1 .left), le-ltb _ _ (c .before .if2 .left))
+    (ap coordSays (rw (toZ-ofZ w64 _ (c .before .before .before .fits .coord)) at (c .resolve .ensures)))))

@@ -12,30 +12,20 @@ use Rattle.border.proofs.coord.wrap.Tie as tie
 small : (s : tie.Start) → s .args .p < 2 ^ 62
 small s = omega arith
 
-rem-r : tie.Need-rem-r
-rem-r c = (c .pre .0, rem-fits (c .args .c) (c .args .p) (c .fits .c) (c .pre .0) (small c))
-
-add-result : tie.Need-add-result
-add-result c = let s = c .before in sum-fits (s .args .c) (s .args .p) (s .fits .c) (s .pre .0) (small s) (c .if1 .taken)
-
 cast-result : tie.Need-cast-result
 cast-result c =
     let s = c .before in
-    cast-of _ _ (sum-read (s .args .c) (s .args .p) (s .fits .c) (s .pre .0) (small s) (c .if1 .taken))
-    (rem-small (s .args .c) (s .args .p) (s .fits .c) (s .pre .0) (small s))
+    cast-of _ _ (sum-read _ _ (s .fits .c) (s .pre .0) (small s) (c .if1 .taken)) (rem-small _ _ (s .fits .c) (s .pre .0) (small s))
 
 cast-result-2 : tie.Need-cast-result-2
 cast-result-2 c =
     let s = c .before in
-    cast-of _ _ (rem-is (s .args .c) (s .args .p) (s .fits .c) (s .pre .0) (small s) (c .if1 .left))
-    (rem-small (s .args .c) (s .args .p) (s .fits .c) (s .pre .0) (small s))
-
-returns : tie.Need-returns
-returns c = let s = c .before in ap natAbs (sum-read (s .args .c) (s .args .p) (s .fits .c) (s .pre .0) (small s) (c .if1 .taken))
-
-returns-2 : tie.Need-returns-2
-returns-2 c = let s = c .before in ap natAbs (rem-is (s .args .c) (s .args .p) (s .fits .c) (s .pre .0) (small s) (c .if1 .left))
+    cast-of _ _ (rem-is _ _ (s .fits .c) (s .pre .0) (small s) (c .if1 .left)) (rem-small _ _ (s .fits .c) (s .pre .0) (small s))
 
 pub wrap-spec : {M : Type 1} → statement M
 wrap-spec =
-    tie.close (tie.spec (λ c. search needs) rem-r add-result cast-result cast-result-2 returns returns-2)
+    tie.close
+    (tie.spec (λ c. search needs) (λ c. (c .pre .0, rem-fits _ _ (c .fits .c) (c .pre .0) (small c)))
+    (λ c. let s = c .before in sum-fits _ _ (s .fits .c) (s .pre .0) (small s) (c .if1 .taken)) cast-result cast-result-2
+    (λ c. let s = c .before in ap natAbs (sum-read _ _ (s .fits .c) (s .pre .0) (small s) (c .if1 .taken)))
+    (λ c. let s = c .before in ap natAbs (rem-is _ _ (s .fits .c) (s .pre .0) (small s) (c .if1 .left))))

@@ -4,17 +4,9 @@ use Rattle.border.proofs.Resolving.{zero-below, zero-in, zero-out}
 use Rattle.border.proofs.coord.zero_at.Statement.{statement}
 use Rattle.border.proofs.coord.zero_at.Tie as tie
 
-returns : tie.Need-returns
-returns c = let s = c .before in zero-below (s .args .c) (s .args .side) (s .fits .c) (c .if1 .taken)
-
-cast-n : tie.Need-cast-n
-cast-n c = cast-natural (c .before .args .c) (c .before .fits .c) (c .if1 .left)
-
-returns-2 : tie.Need-returns-2
-returns-2 c = let s = c .before .before in zero-in (s .args .c) (s .args .side) _ (natural-of (s .args .c) (s .fits .c) (c .before .if1 .left) .is) (c .if2 .taken)
-
-returns-3 : tie.Need-returns-3
-returns-3 c = let s = c .before .before in zero-out (s .args .c) (s .args .side) _ (natural-of (s .args .c) (s .fits .c) (c .before .if1 .left) .is) (c .if2 .left)
-
 pub zero-at-spec : {M : Type 1} → statement M
-zero-at-spec = tie.close (tie.spec returns cast-n returns-2 returns-3)
+zero-at-spec =
+    tie.close
+    (tie.spec (λ c. zero-below (c .before .fits .c) (c .if1 .taken) _) (λ c. cast-natural _ (c .before .fits .c) (c .if1 .left))
+    (λ c. zero-in (natural-of _ (c .before .before .fits .c) (c .before .if1 .left) .is) (c .if2 .taken))
+    (λ c. zero-out (natural-of _ (c .before .before .fits .c) (c .before .if1 .left) .is) (c .if2 .left)))

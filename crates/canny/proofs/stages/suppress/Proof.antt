@@ -1,39 +1,32 @@
 -- `suppress` meets its contract: the four stages, composed. Assumes nothing.
 use borrow.Author.Needs.{needs}
-use denote.Ref.{now}
 use native.Mathlib.Omega.{arith}
+use mathlib.Core.Path.{_∙_}
 use Rattle.rules.proofs.Rows.{side-off}
 use Rattle.canny.proofs.Suppressing.{all-stages}
 use Rattle.canny.proofs.stages.suppress.Statement.{statement}
 use Rattle.canny.proofs.stages.suppress.Tie as tie
 
+-- ---- the moments from the end back: a stage has given back what it was lent
+
+abbrev measured : tie.After-slice-known7 → tie.After-magnitude
+measured c = c .before .before .before .before .before .before .before .before .before .before .before
+
+abbrev sloped : tie.After-slice-known7 → tie.After-gy
+sloped c = measured c .before .before .before .before .before .before .before
+
+abbrev smoothed : tie.After-slice-known7 → tie.After-blurred
+smoothed c = sloped c .before .before .before .before .before .before .before .before
+
 mul-n : tie.Need-mul-n
-mul-n c = let s = c .before .before .before .before .before .before in let h = side-off (s .args .size) (s .pre .sides) in omega (arith, h .small)
-
-same-length : tie.Need-same-length
-same-length c = omega (arith, c .before .work2 .given, c .before .before .before .before .before .before .before .before .before .before .before .before .before .before .before .before .before .before .before .before .before .before .before .before .before .before .before .before .work .given)
-
-same-length-2 : tie.Need-same-length-2
-same-length-2 c = c .before .before .before .before .before .before .before .before .before .before .before .magnitude .given
-
-same-length-3 : tie.Need-same-length-3
-same-length-3 c = c .before .before .before .before .before .before .before .before .before .before .before .before .before .before .before .before .before .before .before .gx .given
-
-same-length-4 : tie.Need-same-length-4
-same-length-4 c = c .before .before .before .before .before .before .before .before .before .before .before .before .before .before .before .before .before .before .gy .given
-
-same-length-5 : tie.Need-same-length-5
-same-length-5 c = c .before .before .before .before .before .before .before .before .before .before .before .before .before .before .before .before .before .before .before .before .before .before .before .before .before .before .blurred .given
+mul-n c = let s = c .before .before .before .before .before .before in omega (arith, side-off (s .args .size) (s .pre .sides) .small)
 
 returns : tie.Need-returns
 returns c =
-    let v = c .before .before in
-    let m = v .before .before .before .before .before .before .before .before .before .before in
-    let g = m .before .before .before .before .before .before .before .before in
-    let b = g .before .before .before .before .before .before .before .before .before in
-    let s = b .before .before .before .before .before .before .before .before .before in
-    let a = s .args in
-    all-stages (a .size) (now (a .pixels)) (now (a .taps)) (now (a .work)) (now (a .magnitude)) (now (a .gx)) (now (a .gy)) (now (a .blurred)) (s .pre) _ _ _ (b .gaussian-blur .ensures) _ _ _ (g .sobel-gradients .ensures) _ _ (m .gradient-magnitude .ensures) _ _ (v .non-maximum-suppression .ensures)
+    let b = smoothed c .before .before .before in
+    all-stages (b .before .before .before .before .before .before .before .before .before .pre) (b .gaussian-blur .ensures)
+    (sloped c .before .before .sobel-gradients .ensures)
+    (measured c .before .gradient-magnitude .ensures) (c .before .before .non-maximum-suppression .ensures)
 
 pub suppress-spec : {M : Type 1} → statement M
 suppress-spec =
@@ -41,4 +34,5 @@ suppress-spec =
     (tie.spec mul-n (λ c κs. search needs) (λ c. search needs) (λ c. search needs) (λ c. search needs) (λ c κs. search needs) (λ c. search needs)
     (λ c. search needs) (λ c. search needs) (λ c. search needs) (λ c. search needs) (λ c. search needs) (λ c κs. search needs) (λ c. search needs)
     (λ c. search needs) (λ c. search needs) (λ c. search needs) (λ c. search needs) (λ c. search needs) (λ c. search needs) (λ c. search needs)
-    (λ c. search needs) (λ c κs. search needs) same-length same-length-2 same-length-3 same-length-4 same-length-5 returns)
+    (λ c. search needs) (λ c κs. search needs) (λ c. c .before .work2 .given ∙ smoothed c .before .before .work .given)
+    (λ c. measured c .magnitude .given) (λ c. sloped c .before .gx .given) (λ c. sloped c .gy .given) (λ c. smoothed c .blurred .given) returns)

@@ -1,32 +1,29 @@
 -- `walk` meets its contract: the start, one slice and the map request, composed. Assumes nothing.
 use borrow.Author.Needs.{needs}
-use denote.Ref.{now}
-use native.Mathlib.Omega.{arith}
-use Rattle.rules.proofs.Rows.{off, side-off}
-use Rattle.rules.specs.Refusals.{startRows}
-use Rattle.rules.specs.Picture.{area}
-use lib.ListN.{take}
+use mathlib.Core.Path.{_∙_}
 use Rattle.canny.proofs.Walking.{walked}
 use Rattle.canny.proofs.stages.walk.Statement.{statement}
 use Rattle.canny.proofs.stages.walk.Tie as tie
 
-same-length : tie.Need-same-length
-same-length c = omega (arith, c .before .before .before .before .before .before .before .before .before .before .marks2 .given, c .before .before .before .before .before .before .before .before .before .before .before .before .before .before .before .before .before .before .marks .given)
+-- ---- the moments from the end back: a call has given back what it was lent
 
-same-length-2 : tie.Need-same-length-2
-same-length-2 c = omega (arith, c .before .before .before .before .before .before .before .before .stack2 .given, c .before .before .before .before .before .before .before .before .before .before .before .before .before .before .before .before .stack .given)
+abbrev ended : tie.After-out → tie.After-stack2
+ended c = c .before .before .before .before .before .before .before
+
+abbrev begun : tie.After-out → tie.After-stack
+begun c = ended c .before .before .before .before .before .before .before .before
 
 returns : tie.Need-returns
 returns c =
-    let m = c .before .before in
-    let l = m .before .before .before .before .before .before .before .before .before in
-    let b = l .before .before .before .before .before .before .before .before in
-    let s = b .before .before .before .before .before .before .before .before .before in
-    let a = s .args in
-    walked (a .size) (a .thresholds) (now (a .suppressed)) (now (a .marks)) (now (a .stack)) (now (a .out)) (s .pre) _ _ _ (b .start .ensures) _ _ _ (l .slice .ensures) _ _ (m .map .ensures)
+    let e = c .before in
+    let b = begun e .before .before .before in
+    walked (b .before .before .before .before .before .before .before .before .before .pre) (b .start .ensures)
+    (ended e .before .before .before .slice .ensures) (e .before .map .ensures)
 
 pub walk-spec : {M : Type 1} → statement M
 walk-spec =
     tie.close
     (tie.spec (λ c. search needs) (λ c. search needs) (λ c. search needs) (λ c. search needs) (λ c κs. search needs) (λ c. search needs)
-    (λ c κs. search needs) (λ c κs. search needs) same-length same-length-2 (λ c. c .before .out .given) returns)
+    (λ c κs. search needs) (λ c κs. search needs)
+    (λ c. ended (c .before) .before .before .marks2 .given ∙ begun (c .before) .before .before .marks .given)
+    (λ c. ended (c .before) .stack2 .given ∙ begun (c .before) .stack .given) (λ c. c .before .out .given) returns)

@@ -2,121 +2,77 @@
 use borrow.Author.Needs.{needs}
 use native.Mathlib.Nat.{mul-le-mul}
 use native.Mathlib.Omega.{arith}
-use Prim.Native.Nat.{ℕ, _-_, _+_, _%_, _<_, _≤_}
+use Prim.Native.Nat.{_-_}
 use mathlib.Core.Path.{_≡_, refl}
-use denote.Ref.{now}
 use lib.ListN.{length}
 use Rattle.rules.specs.Picture.{area, byPixel}
 use Rattle.rules.specs.Sums.{toByte}
-use Rattle.rules.specs.Filters.{ofFloats, verticalAt}
+use Rattle.rules.specs.Filters.{ofFloats, kernelSum, verticalAt}
 use Rattle.rules.proofs.Fill.{Filling, filling-start, filling-end}
-use Rattle.filters.proofs.Passing.{RunAt, run-at, run-ends, run-room, byte-run, float-block}
+use Rattle.filters.proofs.Passing.{RunAt, run-at, Run, run-of, run-room, byte-run, float-block}
 use Rattle.filters.proofs.passes.vertical_pass.Statement.{statement}
 use Rattle.filters.proofs.passes.vertical_pass.Tie as tie
 
 abbrev Inv-loop : tie.InvT-loop
-Inv-loop entries size taps border sums₀ out₀ width count at₀ sums out at = Filling (area size) at (byPixel size (λ x y. toByte (verticalAt size (length taps) border taps (ofFloats entries) x y))) out₀ out × (length sums ≡ length sums₀)
+Inv-loop entries size taps border sums₀ out₀ width count at₀ sums out at =
+    Filling (area size) at (byPixel size (λ x y. toByte (verticalAt size (length taps) border taps (ofFloats entries) x y))) out₀ out
+    × (length sums ≡ length sums₀)
 
 abbrev μ-loop : tie.MeasureT-loop
 μ-loop entries size taps border sums₀ out₀ width count at₀ sums out at = area size - at
 
-run : (c : tie.In-loop Inv-loop μ-loop) → RunAt (c .before .before .before .before .before .before .before .args .size) (c .before .loop .at)
-run c = let s = c .before .before .before .before .before .before .before in run-at (s .args .size) (c .before .loop .at) (c .loop-test .taken) (s .pre .0 .width-fits) (s .pre .0 .height-fits)
+abbrev start : tie.In-loop Inv-loop μ-loop → tie.Start Inv-loop μ-loop
+start c = c .before .before .before .before .before .before .before
+
+begins : (c : tie.In-loop Inv-loop μ-loop) → RunAt (start c .args .size) (c .before .loop .at)
+begins c = run-at (start c .pre .0 .whole) (c .loop-test .taken)
 
 -- the run's length: at most a block, at most what is left of the row
-module _ (c : tie.After-least Inv-loop μ-loop) where
-  abbrev S : tie.Start Inv-loop μ-loop
-  S = c .before .before .before .before .before .before .before .before
-
-  abbrev At : ℕ
-  At = c .before .before .loop .at
-
-  short : c .least .result ≤ 128
-  short = let e = c .least .ensures in omega arith
-
-  some : 0 < c .least .result
-  some = let e = c .least .ensures in let r = run (c .before) .column in omega arith
-
-  fits : At % S .args .size .width + c .least .result ≤ S .args .size .width
-  fits = let e = c .least .ensures in let r = run (c .before) .column in omega arith
-
-  ends : At + c .least .result ≤ area (S .args .size)
-  ends = run-ends (S .args .size) At (c .least .result) (c .before .loop-test .taken) fits
-
-mul-count : tie.Need-mul-count Inv-loop μ-loop
-mul-count c = let p = c .before .before .before .before .before .pre .0 in omega (arith, mul-le-mul (p .width-fits) (p .height-fits))
-
-loop-holds : tie.Need-loop-holds Inv-loop μ-loop
-loop-holds c = let a = c .before .before .before .before .before .args in (filling-start (area (a .size)) (byPixel (a .size) (λ x y. toByte (verticalAt (a .size) (length (now (a .taps))) (a .border) (now (a .taps)) (ofFloats (now (a .entries))) x y))) (now (a .out)), refl)
-
-rem-x : tie.Need-rem-x Inv-loop μ-loop
-rem-x c = omega (arith, run c .column)
-
-sub-least : tie.Need-sub-least Inv-loop μ-loop
-sub-least c = omega (arith, run c .column)
-
-div-float-sums : tie.Need-div-float-sums Inv-loop μ-loop
-div-float-sums c = omega (arith, run (c .before) .column)
+run : (c : tie.After-least Inv-loop μ-loop) → Run (start (c .before) .args .size) (c .before .before .loop .at) (c .least .result)
+run c = let e = c .least .ensures in run-of (begins (c .before)) (omega arith)
 
 float-sums-requires : tie.Need-float-sums-requires Inv-loop μ-loop
 float-sums-requires c κs =
     let t = c .before in
-    let s = S t in
-    let a = s .args in
-    float-block (a .size) (now (a .entries)) (now (a .taps)) (now (a .out)) (At t) _ _ (s .pre .0) (run (t .before)) (fits t) (omega (arith, short t, s .pre .1, t .before .before .loop .inv .1))
-
-add-e : tie.Need-add-e Inv-loop μ-loop
-add-e c = omega (arith, ends (c .before .before .before .before), run (c .before .before .before .before .before) .small)
+    let e = t .least .ensures in
+    float-block (run t) (start (t .before) .pre .0) (omega (arith, start (t .before) .pre .1, t .before .before .loop .inv .1))
 
 part-quantize-row-end : tie.Need-part-quantize-row-end Inv-loop μ-loop
-part-quantize-row-end c = omega (arith, ends (c .before .before .before .before .before), c .before .before .before .before .before .before .before .before .before .before .before .before .before .pre .0 .room, c .before .before .before .before .before .before .before .loop .inv .0 .same)
+part-quantize-row-end c =
+    let t = c .before .before .before .before .before in
+    omega (arith, run t .ends, start (t .before) .pre .0 .whole .room, t .before .before .loop .inv .0 .same)
 
 quantize-row-requires : tie.Need-quantize-row-requires Inv-loop μ-loop
 quantize-row-requires c κs =
     let t = c .before .before .before .before .before .before in
-    let s = S t in
-    let l = t .before .before .loop in
-    (search needs, run-room (l .out) (l .at) _ (omega (arith, ends t, s .pre .0 .room, l .inv .0 .same)))
+    (search needs, run-room (run t) (start (t .before) .pre .0 .whole .room) (t .before .before .loop .inv .0))
 
 loop-less : tie.Need-loop-less Inv-loop μ-loop
-loop-less c = let t = c .before .before .before .before .before .before .before .before .before in omega (arith, ends t, some t)
+loop-less c =
+    let t = c .before .before .before .before .before .before .before .before .before in
+    let e = t .least .ensures in
+    omega (arith, run t .ends, begins (t .before) .column)
 
 loop-again : tie.Need-loop-again Inv-loop μ-loop
 loop-again c =
     let q = c .before .before in
     let f = q .before .before .before .before .before in
-    let t = f .before .before in
-    let s = S t in
-    let a = s .args in
-    let l = t .before .before .loop in
-    (byte-run (a .size) (l .at) (t .least .result) (t .before .loop-test .taken) (fits t) (verticalAt (a .size) (length (now (a .taps))) (a .border) (now (a .taps)) (ofFloats (now (a .entries)))) (l .sums) _ (now (a .out)) (l .out) _ (s .pre .0 .room) (l .inv .0) (f .float-sums .ensures) (q .quantize-row .ensures), search needs)
+    let t = f .before .before in (
+      byte-run (run t) (start (t .before) .pre .0 .whole .room) (kernelSum _ _ _) _ (t .before .before .loop .inv .0)
+          (f .float-sums .ensures) (q .quantize-row .ensures),
+      search needs,
+    )
 
 returns : tie.Need-returns Inv-loop μ-loop
-returns c =
-    let l = c .before .loop in
-    let a = c .before .before .before .before .before .before .before .args in
-    filling-end (area (a .size)) (l .at) (byPixel (a .size) (λ x y. toByte (verticalAt (a .size) (length (now (a .taps))) (a .border) (now (a .taps)) (ofFloats (now (a .entries))) x y))) (now (a .out)) (l .out) (l .inv .0) (c .loop-test .left)
+returns c = filling-end (c .before .loop .inv .0) (c .loop-test .left)
 
 pub vertical-pass-spec : {M : Type 1} → statement M
 vertical-pass-spec =
     tie.close
-    (tie.spec
-    Inv-loop
-    μ-loop
-    mul-count
-    loop-holds
-    rem-x
-    sub-least
-    (λ c κs. search needs)
-    div-float-sums
-    float-sums-requires
-    add-e
-    (λ c. search needs)
-    (λ c. search needs)
-    part-quantize-row-end
-    quantize-row-requires
-    loop-less
-    loop-again
-    (λ c. search needs)
-    (λ c. search needs)
-    returns)
+    (tie.spec Inv-loop μ-loop
+    (λ c. let w = c .before .before .before .before .before .pre .0 .whole in omega (arith, mul-le-mul (w .width-fits) (w .height-fits)))
+    (λ c. (filling-start, refl)) (λ c. omega (arith, begins c .column)) (λ c. omega (arith, begins c .column)) (λ c κs. search needs)
+    (λ c. omega (arith, begins (c .before) .column)) float-sums-requires
+    (λ c. let t = c .before .before .before .before in omega (arith, run t .ends, begins (t .before) .small))
+    (λ c. search needs) (λ c. search needs) part-quantize-row-end quantize-row-requires loop-less loop-again (λ c. search needs)
+    (λ c. search needs) returns)

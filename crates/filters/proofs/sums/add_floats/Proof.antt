@@ -3,7 +3,6 @@ use borrow.Author.Needs.{needs}
 use native.Mathlib.Omega.{arith}
 use Prim.Native.Nat.{_-_}
 use mathlib.Core.Path.{refl}
-use denote.Ref.{now}
 use Rattle.rules.specs.Filters.{ofFloats}
 use Rattle.rules.proofs.Fill.{Filling, filling-start, filling-end}
 use Rattle.filters.specs.Blocks.{added}
@@ -17,64 +16,14 @@ Inv-loop sums₀ samples n weight i₀ sums i = Filling n i (added sums₀ (ofFl
 abbrev μ-loop : tie.MeasureT-loop
 μ-loop sums₀ samples n weight i₀ sums i = n - i
 
-loop-holds : tie.Need-loop-holds Inv-loop μ-loop
-loop-holds c = let a = c .args in filling-start (a .n) (added (now (a .sums)) (ofFloats (now (a .samples))) (a .weight)) (now (a .sums))
-
-mul-sums : tie.Need-mul-sums Inv-loop μ-loop
-mul-sums c = search needs
-
-slice-read-sums : tie.Need-slice-read-sums Inv-loop μ-loop
-slice-read-sums c = search needs
-
-mul-sums-2 : tie.Need-mul-sums-2 Inv-loop μ-loop
-mul-sums-2 c = search needs
-
-shared-slice-read-sums : tie.Need-shared-slice-read-sums Inv-loop μ-loop
-shared-slice-read-sums c = search needs
-
-mul-sums-3 : tie.Need-mul-sums-3 Inv-loop μ-loop
-mul-sums-3 c = search needs
-
-slice-write-sums : tie.Need-slice-write-sums Inv-loop μ-loop
-slice-write-sums c = search needs
-
-add-i : tie.Need-add-i Inv-loop μ-loop
-add-i c = search needs
-
-loop-less : tie.Need-loop-less Inv-loop μ-loop
-loop-less c = search needs
-
 loop-again : tie.Need-loop-again Inv-loop μ-loop
-loop-again c =
-    let t = c .before .before .before in
-    let s = t .before in
-    let a = s .args in
-    adding-more (now (a .sums)) (t .loop .sums) (ofFloats (now (a .samples))) (a .weight) (a .n) (t .loop .i) _ (s .pre .0) (omega arith) (t .loop .inv) refl
-
-same-length : tie.Need-same-length Inv-loop μ-loop
-same-length c = search needs
+loop-again c = adding-more _ _ (omega arith) (omega arith) (c .before .before .before .loop .inv) refl
 
 returns : tie.Need-returns Inv-loop μ-loop
-returns c =
-    let a = c .before .before .args in
-    let l = c .before .loop in
-    filling-end (a .n) (l .i) (added (now (a .sums)) (ofFloats (now (a .samples))) (a .weight)) (now (a .sums)) (l .sums) (l .inv) (omega arith)
+returns c = filling-end (c .before .loop .inv) (c .loop-test .left)
 
 pub add-floats-spec : {M : Type 1} → statement M
 add-floats-spec =
     tie.close
-    (tie.spec
-    Inv-loop
-    μ-loop
-    loop-holds
-    mul-sums
-    slice-read-sums
-    mul-sums-2
-    shared-slice-read-sums
-    mul-sums-3
-    slice-write-sums
-    add-i
-    loop-less
-    loop-again
-    same-length
-    returns)
+    (tie.spec Inv-loop μ-loop (λ c. filling-start) (λ c. search needs) (λ c. search needs) (λ c. search needs) (λ c. search needs)
+    (λ c. search needs) (λ c. search needs) (λ c. search needs) (λ c. search needs) loop-again (λ c. search needs) returns)

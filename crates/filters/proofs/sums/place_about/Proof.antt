@@ -6,7 +6,7 @@ use Rattle.filters.proofs.sums.place_about.Statement.{statement}
 use Rattle.filters.proofs.sums.place_about.Tie as tie
 
 returns : tie.Need-returns
-returns c = let s = c .before in c .place .ensures ∙ placed-is (s .args .border) _ (s .args .side) (s .pre .0) (s .pre .1)
+returns c = c .place .ensures ∙ placed-is _ _ _ (c .before .pre .0) (c .before .pre .1)
 
 pub place-about-spec : {M : Type 1} → statement M
 place-about-spec = tie.close (tie.spec (λ c. search needs) (λ c. search needs) (λ c κs. search needs) returns)

@@ -3,8 +3,5 @@ use borrow.Author.Needs.{needs}
 use Rattle.frame.proofs.layout.size_of.Statement.{statement}
 use Rattle.frame.proofs.layout.size_of.Tie as tie
 
-returns : tie.Need-returns
-returns c = rw (c .before .wide .ensures .0, c .wide2 .ensures .0)
-
 pub size-of-spec : {M : Type 1} → statement M
-size-of-spec = tie.close (tie.spec (λ c κs. search needs) (λ c κs. search needs) returns)
+size-of-spec = tie.close (tie.spec (λ c κs. search needs) (λ c κs. search needs) (λ c. rw (c .before .wide .ensures .0, c .wide2 .ensures .0)))

@@ -13,11 +13,12 @@ use Rattle.frame.proofs.running.run.Tie as tie
 
 returns : tie.Need-returns
 returns c =
-    let s = c .before .before .before .before .before .before .before .before .before .before .before .before .before .before .before .before .before .before .before .before .before in
+    let r = c .before .before .before .before .before .before .before .before .before in
+    let s = r .before .before .before .before .before .before .before .before .before .before .before .before in
     let a = s .args in
     let h = s .pre .small in
     let m : area (a .size) ≤ length (now (a .map)) = omega (arith, h, s .pre .room) in
-    ap shown (c .before .before .before .before .before .before .before .before .before .canny .ensures)
+    ap shown (r .canny .ensures)
     ∙ any-scratch (a .size) (now (a .pixels)) (now (a .taps)) (a .thresholds) _ (now (a .map))
     (record { work = h; magnitude = h; gx = h; gy = h; blurred = h; marks = h; stack = h; room = m })
     ∙ sym (ran-is (a .size) (now (a .pixels)) (now (a .taps)) (a .thresholds) (now (a .map)) m)

@@ -1,15 +1,12 @@
 -- `put_decimal` meets its contract: the measure is the number, which falls to its tenth. Assumes nothing.
 use Prim.Native.Nat.{ℕ, _<_, _+_, _/_}
-use mathlib.Core.Path.{sym, ap, _∙_}
-use mathlib.Core.List.{[], _∷_, _++_}
 use borrow.Fn.Kinds.{In}
 use borrow.Fn.PlainCycle.{Measures, is, falls, and}
 use denote.Ref.{now}
-use lib.ListN.{set, length-set}
-use lib.Seq.{sets}
+use lib.ListN.{length-set}
 use Rattle.rules.specs.Frame.{decimal}
-use Rattle.frame.proofs.Decimals.{one-digit, more-digits, length-1, length-more}
-use Rattle.frame.proofs.Writing.{then-byte}
+use Rattle.frame.proofs.Decimals.{length-1, length-more}
+use Rattle.frame.proofs.Writing.{Put, only-digit, last-digit}
 use borrow.Author.Needs.{needs}
 use native.Mathlib.Omega.{arith}
 use Rattle.frame.proofs.text.put_decimal.Reads as put-decimal
@@ -29,75 +26,28 @@ put-decimal-at t = and 1 put-decimal-kinds.ps (is 1 put-decimal-kinds.ps μ-put-
 abbrev put-decimal-below : ℕ → In 1 put-decimal-kinds.ps
 put-decimal-below t = and 1 put-decimal-kinds.ps (falls 1 put-decimal-kinds.ps _<_ μ-put-decimal t) put-decimal.Pre
 
-digit-requires : (t : ℕ) → put-decimal-lts.Need-digit-requires (digit-reads.Asked, digit-reads.Learnt, put-decimal-below t, put-decimal.Post) (put-decimal-at t) put-decimal.Post
-digit-requires t c κs = search needs
-
-slice-write-text : (t : ℕ) → put-decimal-lts.Need-slice-write-text (digit-reads.Asked, digit-reads.Learnt, put-decimal-below t, put-decimal.Post) (put-decimal-at t) put-decimal.Post
-slice-write-text t c = let s = c .before .before .before in omega (arith, length-1 (s .args .n) (c .before .if1 .taken), s .pre .1)
-
-add-result : (t : ℕ) → put-decimal-lts.Need-add-result (digit-reads.Asked, digit-reads.Learnt, put-decimal-below t, put-decimal.Post) (put-decimal-at t) put-decimal.Post
-add-result t c = let s = c .before .before .before in omega (arith, length-1 (s .args .n) (c .before .if1 .taken), s .pre .1)
-
-same-length : (t : ℕ) → put-decimal-lts.Need-same-length (digit-reads.Asked, digit-reads.Learnt, put-decimal-below t, put-decimal.Post) (put-decimal-at t) put-decimal.Post
-same-length t c = simp length-set
-
-returns : (t : ℕ) → put-decimal-lts.Need-returns (digit-reads.Asked, digit-reads.Learnt, put-decimal-below t, put-decimal.Post) (put-decimal-at t) put-decimal.Post
-returns t c =
-    let s = c .before .before .before in
-    let n = s .args .n in
-    let h = c .before .if1 .taken in (
-      ap (λ k. s .args .at + k) (sym (length-1 n h)),
-      ap (set (now (s .args .text)) (s .args .at)) (c .digit .ensures) ∙ ap (sets (now (s .args .text)) (s .args .at)) (sym (one-digit n h)),
-    )
-
-put-decimal-requires : (t : ℕ) → put-decimal-lts.Need-put-decimal-requires (digit-reads.Asked, digit-reads.Learnt, put-decimal-below t, put-decimal.Post) (put-decimal-at t) put-decimal.Post
-put-decimal-requires t c κs =
-    let s = c .before .before .before in
-    let n = s .args .n in
-    let h = c .before .if1 .left in
-    let l = length-more n h in
-    let p = s .pre .1 in
-    (omega (arith, s .pre .0), omega arith)
-
-digit-requires-2 : (t : ℕ) → put-decimal-lts.Need-digit-requires-2 (digit-reads.Asked, digit-reads.Learnt, put-decimal-below t, put-decimal.Post) (put-decimal-at t) put-decimal.Post
-digit-requires-2 t c κs = search needs
-
-slice-write-text-2 : (t : ℕ) → put-decimal-lts.Need-slice-write-text-2 (digit-reads.Asked, digit-reads.Learnt, put-decimal-below t, put-decimal.Post) (put-decimal-at t) put-decimal.Post
-slice-write-text-2 t c =
-    let s = c .before .before .before .before .before .before .before in
-    omega (arith, length-more (s .args .n) (c .before .before .before .before .before .if1 .left), s .pre .1, c .before .before .before .put-decimal .ensures .0, c .before .before .before .put-decimal .kept .0)
-
-add-result-2 : (t : ℕ) → put-decimal-lts.Need-add-result-2 (digit-reads.Asked, digit-reads.Learnt, put-decimal-below t, put-decimal.Post) (put-decimal-at t) put-decimal.Post
-add-result-2 t c =
-    let s = c .before .before .before .before .before .before .before in
-    omega (arith, length-more (s .args .n) (c .before .before .before .before .before .if1 .left), s .pre .1, c .before .before .before .put-decimal .ensures .0, c .before .before .before .put-decimal .kept .0)
-
-same-length-2 : (t : ℕ) → put-decimal-lts.Need-same-length-2 (digit-reads.Asked, digit-reads.Learnt, put-decimal-below t, put-decimal.Post) (put-decimal-at t) put-decimal.Post
-same-length-2 t c = length-set (c .before .before .before .put-decimal .last .0) (c .before .before .before .put-decimal .result) (c .digit2 .result) ∙ c .before .before .before .put-decimal .kept .0
-
-returns-2 : (t : ℕ) → put-decimal-lts.Need-returns-2 (digit-reads.Asked, digit-reads.Learnt, put-decimal-below t, put-decimal.Post) (put-decimal-at t) put-decimal.Post
-returns-2 t c =
-    let s = c .before .before .before .before .before .before .before in
-    let n = s .args .n in
-    let e = c .before .before .before .put-decimal .ensures in (
-      omega (arith, length-more n (c .before .before .before .before .before .if1 .left), e .0),
-      then-byte (decimal (n / 10)) (now (s .args .text)) (c .before .before .before .put-decimal .last .0) (s .args .at) (c .before .before .before .put-decimal .result) (c .digit2 .result) (e .1) (e .0)
-          ∙ ap (λ v. sets (now (s .args .text)) (s .args .at) (decimal (n / 10) ++ (v ∷ []))) (c .digit2 .ensures)
-          ∙ ap (sets (now (s .args .text)) (s .args .at)) (sym (more-digits n (c .before .before .before .before .before .if1 .left))),
-    )
-
 pub +put-decimal-spec : {M : Type 1} → statement M
 +put-decimal-spec =
     close μ-put-decimal (λ t.
     put-decimal-lts.spec (digit-reads.Asked, digit-reads.Learnt, put-decimal-below t, put-decimal.Post) (put-decimal-at t) put-decimal.Post
-    (digit-requires t)
-    (slice-write-text t)
-    (add-result t)
-    (same-length t)
-    (returns t)
-    (put-decimal-requires t)
-    (digit-requires-2 t)
-    (slice-write-text-2 t)
-    (add-result-2 t)
-    (same-length-2 t)
-    (returns-2 t))
+    (λ c κs. search needs)
+    (λ c. let s = c .before .before .before in omega (arith, length-1 (s .args .n) (c .before .if1 .taken), s .pre .1))
+    (λ c. let s = c .before .before .before in omega (arith, length-1 (s .args .n) (c .before .if1 .taken), s .pre .1))
+    (λ c. simp length-set)
+    (λ c. let a = c .before .before .before .args in
+    let p = only-digit (now (a .text)) (a .at) (c .before .if1 .taken) in
+    (p .place, rw (c .digit .ensures) (p .is)))
+    (λ c κs. let s = c .before .before .before in
+    let l = length-more (s .args .n) (c .before .if1 .left) in
+    (omega (arith, s .pre .0), omega (arith, s .pre .1)))
+    (λ c κs. search needs)
+    (λ c. let d = c .before .before .before in let s = d .before .before .before .before in
+    omega (arith, length-more (s .args .n) (d .before .before .if1 .left), s .pre .1, d .put-decimal .ensures .0, d .put-decimal .kept .0))
+    (λ c. let d = c .before .before .before in let s = d .before .before .before .before in
+    omega (arith, length-more (s .args .n) (d .before .before .if1 .left), s .pre .1, d .put-decimal .ensures .0, d .put-decimal .kept .0))
+    (λ c. simp length-set (c .before .before .before .put-decimal .kept .0))
+    (λ c. let d = c .before .before .before in let a = d .before .before .before .before .args in
+    let p : Put (now (a .text)) (a .at) (decimal (a .n / 10)) (d .put-decimal .result) (d .put-decimal .last .0) =
+    record { place = d .put-decimal .ensures .0; is = d .put-decimal .ensures .1 } in
+    let q = last-digit (d .before .before .if1 .left) p in
+    (q .place, rw (c .digit2 .ensures) (q .is))))

@@ -12,15 +12,18 @@ use Rattle.frame.proofs.text.put_edges.Tie as tie
 returns : tie.Need-returns
 returns c =
     let a = c .before .before .before .before .args in
-    unfit (edgesText (a .size) (a .count) ++ rowsText (a .size) (now (a .map))) (now (a .text))
-    (omega (arith, length-append (edgesText (a .size) (a .count)) (rowsText (a .size) (now (a .map))), length-rows (a .size) (now (a .map)), c .before .edges-length .ensures, c .if1 .taken))
+    let head = edgesText (a .size) (a .count) in
+    let rows = rowsText (a .size) (now (a .map)) in
+    unfit (head ++ rows) (now (a .text))
+    (omega (arith, length-append head rows, length-rows (a .size) (now (a .map)), c .before .edges-length .ensures, c .if1 .taken))
 
 returns-2 : tie.Need-returns-2
 returns-2 c =
-    let a = c .before .before .before .before .before .before .before .before .before .before .before .before .args in
-    let h = c .before .before .before .before .before .before .put-head in
-    let e = c .before .before .before .before .before .before .before .before .before .edges-length in
-    head-and-rows (a .size) (now (a .map)) (a .count) (now (a .text)) (h .last .1 .1 .0) _ (h .result) (e .result) (c .before .before .before .before .before .before .before .before .if1 .left) (e .ensures) (h .kept .1 .1 .0) (h .ensures .0) (h .ensures .1) (c .before .before .put-rows .ensures)
+    let h = c .before .before .before .before .before .before in
+    let e = h .before .before .before in
+    let a = e .before .before .before .args in
+    head-and-rows (a .size) (now (a .map)) (a .count) (now (a .text)) _ _ _ _ (h .before .before .if1 .left) (e .edges-length .ensures)
+    (h .put-head .kept .1 .1 .0) (h .put-head .ensures) (c .before .before .put-rows .ensures)
 
 pub put-edges-spec : {M : Type 1} → statement M
 put-edges-spec =

@@ -12,16 +12,10 @@ use Rattle.hysteresis.proofs.takes.look_at.Tie as tie
 room : (c : tie.Then1) → c .before .before .args .pending < length (c .before .before .args .stack .now)
 room c = c .before .before .pre .2 (c .if1 .taken)
 
-returns : tie.Need-returns
-unfolding look
-returns c = simp (eq-eqb _ _ (c .if1 .taken))
-
-returns-2 : tie.Need-returns-2
-unfolding look
-returns-2 c = simp (ne-eqb _ _ (c .if1 .left))
-
 pub look-at-spec : {M : Type 1} → statement M
+unfolding look
 look-at-spec =
     tie.close
     (tie.spec (λ c. search needs) (λ c. search needs) (λ c. search needs) (λ c. let h = room c in search needs) (λ c. room c)
-    (λ c. omega (arith, room c)) (λ c. search needs) (λ c. search needs) returns returns-2)
+    (λ c. omega (arith, room c)) (λ c. search needs) (λ c. search needs) (λ c. simp (eq-eqb _ _ (c .if1 .taken)))
+    (λ c. simp (ne-eqb _ _ (c .if1 .left))))

@@ -8,38 +8,23 @@ use Rattle.hysteresis.proofs.Fits.{room-for}
 use Rattle.hysteresis.proofs.takes.visit_at.Statement.{statement}
 use Rattle.hysteresis.proofs.takes.visit_at.Tie as tie
 
-returns : tie.Need-returns
-returns c = sym (visit-out _ _ _ _ (λ w. omega arith))
-
-returns-2 : tie.Need-returns-2
-returns-2 c = sym (visit-out _ _ _ _ (λ w. omega arith))
-
-returns-3 : tie.Need-returns-3
-returns-3 c = sym (visit-out _ _ _ _ (λ w. omega arith))
-
-returns-4 : tie.Need-returns-4
-returns-4 c = sym (visit-out _ _ _ _ (λ w. omega arith))
-
 -- past the four tests the place is in the picture
 inn : (c : tie.Else4) → let a = c .before .before .before .before .before .before .before .before .args in Within (a .size) (a .nx) (a .ny)
 inn c = omega arith
 
-mul-look-at : tie.Need-mul-look-at
-mul-look-at c = omega (arith, place-in _ _ _ (inn (c .before .before .before)))
-
-add-look-at : tie.Need-add-look-at
-add-look-at c = omega (arith, place-in _ _ _ (inn (c .before .before .before)))
-
 look-at-requires : tie.Need-look-at-requires
 look-at-requires c κs =
-    let l = place-in _ _ _ (inn (c .before .before .before)) in
+    let l = place-in (inn (c .before .before .before)) in
     let f = c .before .before .before .before .before .before .before .before .before .before .before .pre in
-    (omega (arith, f .marks-long), omega (arith, f .small), λ e. omega (arith, room-for _ _ f _ l e, f .stack-long))
+    (omega (arith, f .marks-long), omega (arith, f .small), λ e. omega (arith, room-for _ f _ l e, f .stack-long))
 
 returns-5 : tie.Need-returns-5
-returns-5 c = c .before .before .before .before .look-at .ensures ∙ sym (visit-in _ _ _ _ (inn (c .before .before .before .before .before .before .before .before)))
+returns-5 c = c .before .before .before .before .look-at .ensures ∙ sym (visit-in _ (inn (c .before .before .before .before .before .before .before .before)))
 
 pub visit-at-spec : {M : Type 1} → statement M
 visit-at-spec =
     tie.close
-    (tie.spec returns returns-2 returns-3 returns-4 mul-look-at add-look-at look-at-requires (λ c. search needs) (λ c. search needs) returns-5)
+    (tie.spec (λ c. sym (visit-out _ _ _ _ (λ w. omega arith))) (λ c. sym (visit-out _ _ _ _ (λ w. omega arith)))
+    (λ c. sym (visit-out _ _ _ _ (λ w. omega arith))) (λ c. sym (visit-out _ _ _ _ (λ w. omega arith)))
+    (λ c. omega (arith, place-in (inn (c .before .before .before)))) (λ c. omega (arith, place-in (inn (c .before .before .before))))
+    look-at-requires (λ c. search needs) (λ c. search needs) returns-5)

@@ -1,7 +1,6 @@
 -- The loop is safe and ends. Assumes nothing.
 use borrow.Author.Needs.{needs}
 use Prim.Native.Nat.{_-_, _≤_}
-use lib.ListN.{length}
 use Rattle.hysteresis_run.proofs.kept.places_are.Statement.{statement}
 use Rattle.hysteresis_run.proofs.kept.places_are.Tie as tie
 

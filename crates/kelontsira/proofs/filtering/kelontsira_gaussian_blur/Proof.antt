@@ -4,13 +4,7 @@ use Rattle.kelontsira.proofs.Modes.{unknown, known}
 use Rattle.kelontsira.proofs.filtering.kelontsira_gaussian_blur.Statement.{statement}
 use Rattle.kelontsira.proofs.filtering.kelontsira_gaussian_blur.Tie as tie
 
-returns : tie.Need-returns
-returns c = unknown _ _ _ (c .if1 .taken)
-
-returns-2 : tie.Need-returns-2
-returns-2 c = known _ _ _ _ _ (c .before .before .before .before .before .before .before .before .if1 .left) (c .before .before .before .before .before .before .before .mode-of .ensures) (c .before .before .before .before .gaussian-blur .ensures)
-
 pub kelontsira-gaussian-blur-spec : {M : Type 1} → statement M
 kelontsira-gaussian-blur-spec =
     tie.close
-    (tie.spec returns (λ c κs. search needs) (λ c κs. search needs) (λ c. search needs) (λ c. search needs) returns-2)
+    (tie.spec (λ c. search unknown) (λ c κs. search needs) (λ c κs. search needs) (λ c. search needs) (λ c. search needs) (λ c. search known))

@@ -20,7 +20,7 @@ returns c =
 
 -- the picture is not refused
 accepted : (c : tie.Else1) → let a = c .before .before .before .before .args in Passed (a .size) (now (a .pixels))
-accepted c = let a = c .before .before .before .before .args in passed (a .size) (now (a .pixels)) _ (c .before .of-picture .ensures) (c .if1 .left)
+accepted c = passed _ _ _ (c .before .of-picture .ensures) (c .if1 .left)
 
 returns-2 : tie.Need-returns-2
 unfolding median
@@ -57,12 +57,4 @@ returns-4 c =
 pub apply-spec : {M : Type 1} → statement M
 apply-spec =
     tie.close
-    (tie.spec
-    (λ c κs. search needs)
-    returns
-    (λ c κs. search needs)
-    returns-2
-    returns-3
-    median-rows-requires
-    (λ c. search needs)
-    returns-4)
+    (tie.spec (λ c κs. search needs) returns (λ c κs. search needs) returns-2 returns-3 median-rows-requires (λ c. search needs) returns-4)

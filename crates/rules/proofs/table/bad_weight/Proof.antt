@@ -1,10 +1,9 @@
 -- `bad_weight` meets its contract: a search that stops at the first one found. Assumes nothing.
 use borrow.Author.Needs.{needs, zero≤}
-use borrow.Author.Tests.{not-true, not-false}
 use native.Mathlib.Omega.{arith}
-use Prim.Native.Nat.{ℕ, _≤_, _-_}
+use Prim.Native.Nat.{_≤_, _-_}
 use mathlib.Core.Path.{_≡_, refl, sym, ap, _∙_}
-use mathlib.Core.Bool.{Bool, true, false, not}
+use mathlib.Core.Bool.{false, not}
 use denote.Ref.{now}
 use lib.ListN.{length, getD}
 use lib.Ieee.{nan}

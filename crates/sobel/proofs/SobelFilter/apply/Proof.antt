@@ -8,39 +8,21 @@ use Rattle.refusals.proofs.Refusing.{Passed, early-is, passed, no-room, has-roo
 use Rattle.sobel.proofs.SobelFilter.apply.Statement.{statement}
 use Rattle.sobel.proofs.SobelFilter.apply.Tie as tie
 
-returns : tie.Need-returns
-unfolding sobel
-returns c =
-    let a = c .before .before .before .before .args in
-    early-is (a .size) (now (a .pixels)) _ (c .before .of-picture .ensures) (roomRow (a .size) (now (a .out)) ∷ []) _ (now (a .out)) (c .if1 .taken)
-
 -- the picture is not refused
 accepted : (c : tie.Else1) → let a = c .before .before .before .before .args in Passed (a .size) (now (a .pixels))
-accepted c = let a = c .before .before .before .before .args in passed (a .size) (now (a .pixels)) _ (c .before .of-picture .ensures) (c .if1 .left)
-
-returns-2 : tie.Need-returns-2
-unfolding sobel
-returns-2 c =
-    let p = accepted (c .before) in
-    simp (p .side, p .input, no-room _ _ p (now (c .before .before .before .before .before .args .out)) (c .if2 .taken))
-
-byte-rows-requires : tie.Need-byte-rows-requires
-byte-rows-requires c κs = let p = accepted (c .before .before) .picture in search needs
-
-returns-3 : tie.Need-returns-3
-unfolding sobel
-returns-3 c =
-    let t = c .before .before .before .before in
-    let p = accepted (t .before) in
-    simp (p .side, p .input, has-room _ _ p (now (t .before .before .before .before .before .args .out)) (t .if2 .left), c .before .before .byte-rows .ensures)
+accepted c = passed _ _ _ (c .before .of-picture .ensures) (c .if1 .left)
 
 pub apply-spec : {M : Type 1} → statement M
+unfolding sobel
 apply-spec =
     tie.close
-    (tie.spec
-    (λ c κs. search needs)
-    returns
-    returns-2
-    byte-rows-requires
-    (λ c. search needs)
-    returns-3)
+    (tie.spec (λ c κs. search needs)
+    (λ c. let a = c .before .before .before .before .args in
+    early-is (a .size) (now (a .pixels)) _ (c .before .of-picture .ensures) (roomRow (a .size) (now (a .out)) ∷ []) _ _ (c .if1 .taken))
+    (λ c. let p = accepted (c .before) in
+    simp (p .side, p .input, no-room _ _ p (now (c .before .before .before .before .before .args .out)) (c .if2 .taken)))
+    (λ c κs. let p = accepted (c .before .before) .picture in search needs) (λ c. search needs)
+    (λ c. let t = c .before .before .before .before in
+    let p = accepted (t .before) in
+    let room = has-room _ _ p (now (t .before .before .before .before .before .args .out)) (t .if2 .left) in
+    simp (p .side, p .input, room, c .before .before .byte-rows .ensures)))

@@ -1,8 +1,6 @@
 -- `sectors` is safe and ends. Assumes nothing.
 use borrow.Author.Needs.{needs}
-use mathlib.Core.Path.{_≡_}
-use Prim.Native.Nat.{_≤_, _<_, _-_}
-use lib.ListN.{length}
+use Prim.Native.Nat.{_≤_, _-_}
 use Rattle.vectors_run.proofs.gradients.sectors.Statement.{statement}
 use Rattle.vectors_run.proofs.gradients.sectors.Tie as tie
 

@@ -1,8 +1,7 @@
 -- `bytes_are` is safe and ends. Assumes nothing.
 use borrow.Author.Needs.{needs}
 use native.Mathlib.Omega.{arith}
-use mathlib.Core.Path.{_≡_}
-use Prim.Native.Nat.{_≤_, _<_, _-_}
+use Prim.Native.Nat.{_≤_, _-_}
 use lib.ListN.{length}
 use Rattle.vectors_run.proofs.lists.bytes_are.Statement.{statement}
 use Rattle.vectors_run.proofs.lists.bytes_are.Tie as tie

@@ -1,7 +1,6 @@
 -- `floats_are` is safe and ends. Assumes nothing.
 use borrow.Author.Needs.{needs}
-use mathlib.Core.Path.{_≡_}
-use Prim.Native.Nat.{_≤_, _<_, _-_}
+use Prim.Native.Nat.{_≤_, _-_}
 use lib.ListN.{length}
 use Rattle.vectors_run.proofs.lists.floats_are.Statement.{statement}
 use Rattle.vectors_run.proofs.lists.floats_are.Tie as tie

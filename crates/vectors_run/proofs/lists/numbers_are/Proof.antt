@@ -1,7 +1,6 @@
 -- `numbers_are` is safe and ends. Assumes nothing.
 use borrow.Author.Needs.{needs}
-use mathlib.Core.Path.{_≡_}
-use Prim.Native.Nat.{_≤_, _<_, _-_}
+use Prim.Native.Nat.{_≤_, _-_}
 use lib.ListN.{length}
 use Rattle.vectors_run.proofs.lists.numbers_are.Statement.{statement}
 use Rattle.vectors_run.proofs.lists.numbers_are.Tie as tie

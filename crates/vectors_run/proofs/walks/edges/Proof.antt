@@ -1,7 +1,6 @@
 -- `edges` is safe and ends: it counts no more than it has seen. Assumes nothing.
 use borrow.Author.Needs.{needs}
-use mathlib.Core.Path.{_≡_}
-use Prim.Native.Nat.{_≤_, _<_, _-_}
+use Prim.Native.Nat.{_≤_, _-_}
 use lib.ListN.{length}
 use Rattle.vectors_run.proofs.walks.edges.Statement.{statement}
 use Rattle.vectors_run.proofs.walks.edges.Tie as tie

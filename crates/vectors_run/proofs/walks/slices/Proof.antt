@@ -1,7 +1,7 @@
 -- `slices` is safe and ends. Assumes nothing.
 use borrow.Author.Needs.{needs}
 use mathlib.Core.Path.{_≡_}
-use Prim.Native.Nat.{_≤_, _<_, _-_}
+use Prim.Native.Nat.{_≤_, _-_}
 use lib.ListN.{length}
 use Rattle.vectors_run.proofs.walks.slices.Statement.{statement}
 use Rattle.vectors_run.proofs.walks.slices.Tie as tie

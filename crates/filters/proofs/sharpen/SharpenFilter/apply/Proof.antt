@@ -1,7 +1,6 @@
 -- `apply` meets its contract: a convolution with the constant weights. Assumes nothing.
 use borrow.Author.Needs.{needs}
 use mathlib.Core.Path.{_∙_}
-use denote.Ref.{now}
 use lib.Ieee.{ofBits, ofInt}
 use Rattle.rules.proofs.Blurs.{sharpen-is}
 use Rattle.filters.proofs.sharpen.SharpenFilter.apply.Statement.{statement}
@@ -9,10 +8,7 @@ use Rattle.filters.proofs.sharpen.SharpenFilter.apply.Tie as tie
 
 returns : tie.Need-returns
 unfolding ofBits ofInt
-returns c =
-    let s = c .before .before in
-    let a = s .before .before .before .before .before .args in
-    s .apply-kernel .ensures ∙ sharpen-is (a .size) (a .self .border) (now (a .pixels)) (now (a .out))
+returns c = c .before .before .apply-kernel .ensures ∙ sharpen-is _ _ _ _
 
 pub apply-spec : {M : Type 1} → statement M
 apply-spec =

@@ -1,0 +1,3 @@
+-- What this crate's functions promise.
+pub mod Lines
+pub mod Lists

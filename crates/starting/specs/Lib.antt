@@ -1,0 +1,2 @@
+-- What this crate's loops promise.
+pub mod Split
