@@ -105,7 +105,8 @@ module _ (d : Size) (pixels : List ℕ) (taps : List Float) (t : Thresholds) whe
   demand-1 =
       record {
         number = number;
-        refused = λ s map p. let e = is-refused s map p in (ap (λ (a : Counted × (List ℕ × Scratch)). a .0 .count) e, ap (λ (a : Counted × (List ℕ × Scratch)). a .1) e);
+        refused =
+            λ s map p. let e = is-refused s map p in (ap (λ (a : Counted × (List ℕ × Scratch)). a .0 .count) e, ap (λ (a : Counted × (List ℕ × Scratch)). a .1) e);
         same-answer = λ s s' map map' r r'. answer s map r ∙ sym (answer s' map' r');
         same-map = λ s s' map map' e e'. first-of-map s map e ∙ sym (first-of-map s' map' e');
         kept-past = past;

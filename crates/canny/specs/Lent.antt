@@ -42,7 +42,8 @@ pub record Run (d : Size) (pixels : List ℕ) (taps work magnitude : List Float)
   pub blurred-room : area d ≤ length blurred
 
 -- and leave: the suppressed magnitudes, and nothing changed past the picture
-pub record Suppressed (d : Size) (pixels : List ℕ) (taps work magnitude : List Float) (gx gy : List ℤ) (blurred : List ℕ) (work' magnitude' : List Float) (gx' gy' : List ℤ) (blurred' : List ℕ) : Type 0 where
+pub record Suppressed (d : Size) (pixels : List ℕ) (taps work magnitude : List Float) (gx gy : List ℤ) (blurred : List ℕ)
+    (work' magnitude' : List Float) (gx' gy' : List ℤ) (blurred' : List ℕ) : Type 0 where
   pub is : work' ≡ filled (area d) (λ i. getD (suppressedOf d pixels taps) i nan) work
   pub magnitude-kept : drop (area d) magnitude' ≡ drop (area d) magnitude
   pub gx-kept : drop (area d) gx' ≡ drop (area d) gx

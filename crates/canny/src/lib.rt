@@ -30,7 +30,12 @@ pub fn canny(
     stack: &mut [u32],
     map: &mut [u8],
 ) -> Counted
-    ensures { λ r. ⌜ (r, (now (map .exit), scratch (now (work .exit)) (now (magnitude .exit)) (now (gx .exit)) (now (gy .exit)) (now (blurred .exit)) (now (marks .exit)) (now (stack .exit)))) ≡ Run.canny size (now (pixels .entry)) (now (taps .entry)) thresholds (scratch (now (work .entry)) (now (magnitude .entry)) (now (gx .entry)) (now (gy .entry)) (now (blurred .entry)) (now (marks .entry)) (now (stack .entry))) (now (map .entry)) ⌝ }
+    ensures { λ r. ⌜
+        (r, (now (map .exit), scratch (now (work .exit)) (now (magnitude .exit)) (now (gx .exit)) (now (gy .exit)) (now (blurred .exit)) (now (marks .exit)) (now (stack .exit))))
+        ≡ Run.canny size (now (pixels .entry)) (now (taps .entry)) thresholds
+        (scratch (now (work .entry)) (now (magnitude .entry)) (now (gx .entry)) (now (gy .entry)) (now (blurred .entry)) (now (marks .entry)) (now (stack .entry)))
+        (now (map .entry))
+        ⌝ }
 {
     let room = shortest(
         work.len(),

@@ -29,7 +29,10 @@ fn suppress(
     blurred: &mut [u8],
 )
     requires { ⌜ Run size (now pixels) (now taps) (now work) (now magnitude) (now gx) (now gy) (now blurred) ⌝ }
-    ensures { λ _. ⌜ Suppressed size (now (pixels .entry)) (now (taps .entry)) (now (work .entry)) (now (magnitude .entry)) (now (gx .entry)) (now (gy .entry)) (now (blurred .entry)) (now (work .exit)) (now (magnitude .exit)) (now (gx .exit)) (now (gy .exit)) (now (blurred .exit)) ⌝ }
+    ensures { λ _. ⌜
+        Suppressed size (now (pixels .entry)) (now (taps .entry)) (now (work .entry)) (now (magnitude .entry)) (now (gx .entry)) (now (gy .entry))
+        (now (blurred .entry)) (now (work .exit)) (now (magnitude .exit)) (now (gx .exit)) (now (gy .exit)) (now (blurred .exit))
+        ⌝ }
 {
     let n = size.width * size.height;
     gaussian_blur(pixels, size, taps, BorderMode::Clamp, work, blurred);
@@ -49,7 +52,10 @@ fn walk(
     out: &mut [u8],
 )
     requires { ⌜ Walkable size thresholds (now suppressed) (now marks) (now stack) (now out) ⌝ }
-    ensures { λ _. ⌜ Walked size thresholds (now (suppressed .entry)) (now (marks .entry)) (now (stack .entry)) (now (out .entry)) (now (marks .exit)) (now (stack .exit)) (now (out .exit)) ⌝ }
+    ensures { λ _. ⌜
+        Walked size thresholds (now (suppressed .entry)) (now (marks .entry)) (now (stack .entry)) (now (out .entry)) (now (marks .exit))
+        (now (stack .exit)) (now (out .exit))
+        ⌝ }
 {
     let n = size.width * size.height;
     let begun = start(&suppressed[0..n], size, thresholds, marks, stack);
@@ -74,8 +80,18 @@ pub(crate) fn run(
     stack: &mut [u32],
     map: &mut [u8],
 ) -> usize
-    requires { ⌜ first (runRows size (now pixels) (now taps) thresholds (scratch (now work) (now magnitude) (now gx) (now gy) (now blurred) (now marks) (now stack)) (now map)) ≡ 0 ⌝ }
-    ensures { λ r. ⌜ (r, (now (map .exit), scratch (now (work .exit)) (now (magnitude .exit)) (now (gx .exit)) (now (gy .exit)) (now (blurred .exit)) (now (marks .exit)) (now (stack .exit)))) ≡ accepted size (now (pixels .entry)) (now (taps .entry)) thresholds (scratch (now (work .entry)) (now (magnitude .entry)) (now (gx .entry)) (now (gy .entry)) (now (blurred .entry)) (now (marks .entry)) (now (stack .entry))) (now (map .entry)) ⌝ }
+    requires { ⌜
+        first
+        (runRows size (now pixels) (now taps) thresholds
+        (scratch (now work) (now magnitude) (now gx) (now gy) (now blurred) (now marks) (now stack)) (now map))
+        ≡ 0
+        ⌝ }
+    ensures { λ r. ⌜
+        (r, (now (map .exit), scratch (now (work .exit)) (now (magnitude .exit)) (now (gx .exit)) (now (gy .exit)) (now (blurred .exit)) (now (marks .exit)) (now (stack .exit))))
+        ≡ accepted size (now (pixels .entry)) (now (taps .entry)) thresholds
+        (scratch (now (work .entry)) (now (magnitude .entry)) (now (gx .entry)) (now (gy .entry)) (now (blurred .entry)) (now (marks .entry)) (now (stack .entry)))
+        (now (map .entry))
+        ⌝ }
 {
     let n = size.width * size.height;
     suppress(pixels, size, taps, work, magnitude, gx, gy, blurred);

@@ -3,7 +3,7 @@ use crate::buffers::ROOM;
 use cases::count;
 use rules::Size;
 use rules::Thresholds;
-use rules::pattern::float;
+use rules::codes::float;
 ghost use Prim.Native.Nat.{_≤_};
 ghost use lib.ListN.{length};
 ghost use mathlib.Core.Path.{_≡_};

@@ -2,15 +2,16 @@
 // A number is 12, -12 (the pattern of 32 bits), x7fc00000 (bits) or f12 (the bits of the float 12). What is misread shows in what the
 // program writes.
 use rules::BorderMode;
-use rules::pattern::float;
+use rules::codes::float;
+use rules::codes::mode_of;
 use scratch::least;
 ghost use mathlib.Core.Path.{_≡_};
-ghost use mathlib.Core.Bool.{_&&_, cond};
+ghost use mathlib.Core.Bool.{_&&_};
 ghost use Prim.Native.Nat.{_≤_, _%_, min};
 ghost use lib.Dec.{eqb, ltb};
 ghost use lib.ListN.{length, getD};
 ghost use lib.Ieee.{binary32, ofBits};
-ghost use Rattle.rules.specs.declared.BorderMode.the-variants.{Zero, Clamp, Mirror};
+ghost use Rattle.rules.specs.Border.{modeOf};
 ghost use Rattle.cases.specs.Lines.{Case, Onward};
 ghost use Rattle.cases.specs.Lists.{Turned, signedOf};
 
@@ -189,17 +190,11 @@ pub fn count(n: u32) -> usize
     n as usize
 }
 
-// A border: 0 is Zero, 1 Clamp, all else Mirror.
+// A border by its number.
 pub fn border(n: u32) -> BorderMode
-    ensures { λ r. ⌜ r ≡ cond (eqb n 0) Zero (cond (eqb n 1) Clamp Mirror) ⌝ }
+    ensures { λ r. ⌜ r ≡ modeOf (n % 256) ⌝ }
 {
-    if n == 0 {
-        return BorderMode::Zero;
-    }
-    if n == 1 {
-        return BorderMode::Clamp;
-    }
-    BorderMode::Mirror
+    mode_of((n % 256) as u8)
 }
 
 // The same as a length of something that has `most` entries.

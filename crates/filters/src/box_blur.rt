@@ -27,7 +27,10 @@ impl BoxBlurFilter {
     }
 
     pub fn apply(self, pixels: &[u8], size: Size, work: &mut [f32], out: &mut [u8]) -> u8
-        ensures { λ r. ⌜ (r, (now (work .exit), now (out .exit))) ≡ boxBlur size (self .border) (now (pixels .entry)) (now (work .entry)) (now (out .entry)) ⌝ }
+        ensures { λ r. ⌜
+            (r, (now (work .exit), now (out .exit)))
+            ≡ boxBlur size (self .border) (now (pixels .entry)) (now (work .entry)) (now (out .entry))
+            ⌝ }
     {
         let border = self.border;
         gaussian_blur(pixels, size, &TAPS, border, work, out)

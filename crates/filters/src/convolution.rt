@@ -46,7 +46,11 @@ pub fn apply_separable_kernel(
     work: &mut [f32],
     out: &mut [u8],
 ) -> u8
-    ensures { λ r. ⌜ (r, (now (work .exit), now (out .exit))) ≡ applySeparableKernel size kernel border (now (pixels .entry)) (now (horizontal .entry)) (now (vertical .entry)) (now (work .entry)) (now (out .entry)) ⌝ }
+    ensures { λ r. ⌜
+        (r, (now (work .exit), now (out .exit)))
+        ≡ applySeparableKernel size kernel border (now (pixels .entry)) (now (horizontal .entry)) (now (vertical .entry)) (now (work .entry))
+        (now (out .entry))
+        ⌝ }
 {
     let refusal = of_separable(pixels, size, kernel, horizontal, vertical, work, out);
     if refusal != ACCEPTED {

@@ -14,7 +14,10 @@ pub fn gaussian_blur(
     work: &mut [f32],
     out: &mut [u8],
 ) -> u8
-    ensures { λ r. ⌜ (r, (now (work .exit), now (out .exit))) ≡ gaussianBlur size border (now (pixels .entry)) (now (taps .entry)) (now (work .entry)) (now (out .entry)) ⌝ }
+    ensures { λ r. ⌜
+        (r, (now (work .exit), now (out .exit)))
+        ≡ gaussianBlur size border (now (pixels .entry)) (now (taps .entry)) (now (work .entry)) (now (out .entry))
+        ⌝ }
 {
     let kernel = SeparableKernel {
         horizontal: taps.len(),

@@ -27,7 +27,12 @@ pub(crate) fn horizontal_pass(
     work: &mut [f32],
 )
     requires { ⌜ BytePass size (rowKernel (length (now taps))) (now pixels) (now taps) (now work) ⌝ }
-    ensures { λ _. ⌜ now (work .exit) ≡ filled (area size) (byPixel size (horizontalAt size (length (now (taps .entry))) border (now (taps .entry)) (ofBytes (now (pixels .entry))))) (now (work .entry)) ⌝ }
+    ensures { λ _. ⌜
+        now (work .exit)
+        ≡ filled (area size)
+        (byPixel size (horizontalAt size (length (now (taps .entry))) border (now (taps .entry)) (ofBytes (now (pixels .entry)))))
+        (now (work .entry))
+        ⌝ }
 {
     let width = size.width;
     let count = width * size.height;
@@ -65,7 +70,13 @@ pub(crate) fn vertical_pass(
     out: &mut [u8],
 )
     requires { ⌜ FloatPass size (now entries) (now taps) (now out) × (blockLength ≤ length (now sums)) ⌝ }
-    ensures { λ _. ⌜ now (out .exit) ≡ filled (area size) (byPixel size (λ x y. toByte (verticalAt size (length (now (taps .entry))) border (now (taps .entry)) (ofFloats (now (entries .entry))) x y))) (now (out .entry)) ⌝ }
+    ensures { λ _. ⌜
+        now (out .exit)
+        ≡ filled (area size)
+        (byPixel size
+        (λ x y. toByte (verticalAt size (length (now (taps .entry))) border (now (taps .entry)) (ofFloats (now (entries .entry))) x y)))
+        (now (out .entry))
+        ⌝ }
 {
     let width = size.width;
     let count = width * size.height;
@@ -91,7 +102,10 @@ pub(crate) fn convolve(
     out: &mut [u8],
 )
     requires { ⌜ BytePass size kernel (now pixels) (now weights) (now out) × (blockLength ≤ length (now sums)) ⌝ }
-    ensures { λ _. ⌜ now (out .exit) ≡ filled (area size) (byPixel size (convolvedAt size kernel border (now (pixels .entry)) (now (weights .entry)))) (now (out .entry)) ⌝ }
+    ensures { λ _. ⌜
+        now (out .exit)
+        ≡ filled (area size) (byPixel size (convolvedAt size kernel border (now (pixels .entry)) (now (weights .entry)))) (now (out .entry))
+        ⌝ }
 {
     let width = size.width;
     let count = width * size.height;

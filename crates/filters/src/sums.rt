@@ -88,7 +88,10 @@ fn add_edges(
     border: BorderMode,
 )
     requires { ⌜ Row (now row) × (n ≤ length (now sums)) × (at + n ≤ 2 * maxSide) × (half ≤ maxTaps) ⌝ }
-    ensures { λ _. ⌜ now (sums .exit) ≡ filled n (added (now (sums .entry)) (λ i. rowAt (now (row .entry)) border (at + i) half) weight) (now (sums .entry)) ⌝ }
+    ensures { λ _. ⌜
+        now (sums .exit)
+        ≡ filled n (added (now (sums .entry)) (λ i. rowAt (now (row .entry)) border (at + i) half) weight) (now (sums .entry))
+        ⌝ }
 {
     let mut i = 0;
     while i < n {
@@ -134,7 +137,10 @@ fn add_row(
     border: BorderMode,
 )
     requires { ⌜ Row (now row) × (n ≤ length (now sums)) × (at + n ≤ 2 * maxSide) × (half ≤ maxTaps) ⌝ }
-    ensures { λ _. ⌜ now (sums .exit) ≡ filled n (added (now (sums .entry)) (λ i. rowAt (now (row .entry)) border (at + i) half) weight) (now (sums .entry)) ⌝ }
+    ensures { λ _. ⌜
+        now (sums .exit)
+        ≡ filled n (added (now (sums .entry)) (λ i. rowAt (now (row .entry)) border (at + i) half) weight) (now (sums .entry))
+        ⌝ }
 {
     let c = inner_part(at, half, row.len(), n);
     let lo = c.lo;
@@ -171,7 +177,13 @@ fn add_byte_term(
     sums: &mut [f32],
 )
     requires { ⌜ ByteBlock size kernel (now pixels) (now weights) x y n (now sums) × (j < length (now weights)) ⌝ }
-    ensures { λ _. ⌜ now (sums .exit) ≡ filled n (oneMore (now (sums .entry)) (λ i. kernelTerm (sampler (ofBytes (now (pixels .entry))) size border) kernel (now (weights .entry)) (x + i) y) j) (now (sums .entry)) ⌝ }
+    ensures { λ _. ⌜
+        now (sums .exit)
+        ≡ filled n
+        (oneMore (now (sums .entry))
+        (λ i. kernelTerm (sampler (ofBytes (now (pixels .entry))) size border) kernel (now (weights .entry)) (x + i) y) j)
+        (now (sums .entry))
+        ⌝ }
 {
     let weight = flipped_weight(weights, j);
     let r = place_about(y + j / kernel.width, kernel.height / 2, size.height, border);
@@ -204,7 +216,10 @@ pub(crate) fn byte_sums(
     sums: &mut [f32],
 )
     requires { ⌜ ByteBlock size kernel (now pixels) (now weights) x y n (now sums) ⌝ }
-    ensures { λ _. ⌜ now (sums .exit) ≡ filled n (λ i. kernelSum (sampler (ofBytes (now (pixels .entry))) size border) kernel (now (weights .entry)) (x + i) y) (now (sums .entry)) ⌝ }
+    ensures { λ _. ⌜
+        now (sums .exit)
+        ≡ filled n (λ i. kernelSum (sampler (ofBytes (now (pixels .entry))) size border) kernel (now (weights .entry)) (x + i) y) (now (sums .entry))
+        ⌝ }
 {
     clear_floats(sums, n);
     let mut j = 0;
@@ -227,7 +242,14 @@ fn add_float_term(
     sums: &mut [f32],
 )
     requires { ⌜ FloatBlock size (now entries) (now taps) x y n (now sums) × (k < length (now taps)) ⌝ }
-    ensures { λ _. ⌜ now (sums .exit) ≡ filled n (oneMore (now (sums .entry)) (λ i. kernelTerm (sampler (ofFloats (now (entries .entry))) size border) (columnKernel (length (now (taps .entry)))) (now (taps .entry)) (x + i) y) k) (now (sums .entry)) ⌝ }
+    ensures { λ _. ⌜
+        now (sums .exit)
+        ≡ filled n
+        (oneMore (now (sums .entry))
+        (λ i. kernelTerm (sampler (ofFloats (now (entries .entry))) size border) (columnKernel (length (now (taps .entry)))) (now (taps .entry)) (x + i) y)
+        k)
+        (now (sums .entry))
+        ⌝ }
 {
     let weight = flipped_weight(taps, k);
     let r = place_about(y + k, taps.len() / 2, size.height, border);
@@ -251,7 +273,13 @@ pub(crate) fn float_sums(
     sums: &mut [f32],
 )
     requires { ⌜ FloatBlock size (now entries) (now taps) x y n (now sums) ⌝ }
-    ensures { λ _. ⌜ now (sums .exit) ≡ filled n (λ i. kernelSum (sampler (ofFloats (now (entries .entry))) size border) (columnKernel (length (now (taps .entry)))) (now (taps .entry)) (x + i) y) (now (sums .entry)) ⌝ }
+    ensures { λ _. ⌜
+        now (sums .exit)
+        ≡ filled n
+        (λ i. kernelSum (sampler (ofFloats (now (entries .entry))) size border) (columnKernel (length (now (taps .entry)))) (now (taps .entry))
+        (x + i) y)
+        (now (sums .entry))
+        ⌝ }
 {
     clear_floats(sums, n);
     let mut k = 0;

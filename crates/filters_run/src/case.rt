@@ -6,7 +6,7 @@ use rules::BorderMode;
 use rules::Kernel;
 use rules::SeparableKernel;
 use rules::Size;
-use rules::pattern::float;
+use rules::codes::float;
 ghost use Prim.Native.Nat.{_≤_};
 ghost use lib.ListN.{length};
 ghost use mathlib.Core.Path.{_≡_};

@@ -110,6 +110,7 @@ module _ (file : List ℕ) {count : ℕ} (k : count ≡ tapCount file) where
       rw e (take-all (length file - pixelOffset file) (drop (pixelOffset file) file) (omega (arith, length-drop (pixelOffset file) file)))
 
   -- the taps are the first `count` of those decoded
-  pub taps-part : (old now : List Float) → now ≡ filled count (λ j. ofBits binary32 (wordAt file (headerLength + 4 * j))) old → take count now ≡ frameTaps file
+  pub taps-part : (old now : List Float) → now ≡ filled count (λ j. ofBits binary32 (wordAt file (headerLength + 4 * j))) old
+      → take count now ≡ frameTaps file
   unfolding frameTaps
   taps-part old now e = take-filled count _ old now e ∙ rw k

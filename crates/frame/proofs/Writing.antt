@@ -79,7 +79,8 @@ unfit p text h = rw (lt-leb (length p) (length text) h)
 
 -- the whole written from the start
 pub fit : (p text : List ℕ) {l : List ℕ} {r : ℕ} → length p ≤ length text → Put text 0 p r l → (r, l) ≡ fitted p text
-fit p text h q = let e : _≡_ {A = ℕ} (0 + length p) (length p) = omega arith in rw (le-leb (length p) (length text) h, q .place, e, q .is, from-start p text h)
+fit p text h q =
+    let e : _≡_ {A = ℕ} (0 + length p) (length p) = omega arith in rw (le-leb (length p) (length text) h, q .place, e, q .is, from-start p text h)
 
 -- ---- the printout's parts
 
@@ -110,7 +111,8 @@ pub edges-fields : (d : Size) (count : ℕ) → ((edgesWord ++ field (d .width) 
 unfolding edgesText
 edges-fields d count = simp append-assoc
 
-pub length-edges : (d : Size) (count : ℕ) → length (edgesText d count) ≡ 9 + length (decimal (d .width)) + length (decimal (d .height)) + length (decimal count)
+pub length-edges : (d : Size) (count : ℕ)
+    → length (edgesText d count) ≡ 9 + length (decimal (d .width)) + length (decimal (d .height)) + length (decimal count)
 unfolding edgesText
 length-edges d count = simp length-append (omega arith)
 

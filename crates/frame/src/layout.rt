@@ -3,7 +3,7 @@ use rules::MAX_FRAME_LENGTH;
 use rules::MAX_FRAME_SIDE;
 use rules::Size;
 use rules::Thresholds;
-use rules::pattern::float;
+use rules::codes::float;
 ghost use mathlib.Core.Path.{_≡_};
 ghost use Prim.Native.Nat.{_+_, _*_, _≤_, _<_};
 ghost use lib.ListN.{length};
@@ -73,7 +73,10 @@ pub(crate) fn breach(file: &[u8]) -> bool
 // The first `count` taps, as f32 values.
 pub(crate) fn decode_taps(file: &[u8], count: usize, taps: &mut [f32])
     requires { ⌜ (frame.headerLength + 4 * count ≤ length (now file)) × (count ≤ length (now taps)) ⌝ }
-    ensures { λ _. ⌜ now (taps .exit) ≡ filled count (λ k. ofBits binary32 (frame.wordAt (now (file .entry)) (frame.headerLength + 4 * k))) (now (taps .entry)) ⌝ }
+    ensures { λ _. ⌜
+        now (taps .exit)
+        ≡ filled count (λ k. ofBits binary32 (frame.wordAt (now (file .entry)) (frame.headerLength + 4 * k))) (now (taps .entry))
+        ⌝ }
 {
     let mut k = 0;
     while k < count {

@@ -47,7 +47,11 @@ fn run(pixels: &[u8], size: Size, taps: &[f32], thresholds: Thresholds, map: &mu
 // The file's pixels, by its sides, taps and thresholds.
 pub(crate) fn run_file(file: &[u8], count: usize, map: &mut [u8]) -> Counted
     requires { ⌜ Framed (now file) count (now map) ⌝ }
-    ensures { λ r. ⌜ (r, now (map .exit)) ≡ ran (frameSize (now (file .entry))) (framePixels (now (file .entry))) (frameTaps (now (file .entry))) (thresholdsOf (now (file .entry))) (now (map .entry)) ⌝ }
+    ensures { λ r. ⌜
+        (r, now (map .exit))
+        ≡ ran (frameSize (now (file .entry))) (framePixels (now (file .entry))) (frameTaps (now (file .entry))) (thresholdsOf (now (file .entry)))
+        (now (map .entry))
+        ⌝ }
 {
     let mut taps = [0.0f32; MAX_TAPS];
     decode_taps(file, count, &mut taps);

@@ -86,7 +86,11 @@ fn character(v: u8) -> u8
 // A row of the map and its newline.
 fn put_row(row: &[u8], text: &mut [u8])
     requires { ⌜ length (now row) + 1 ≤ length (now text) ⌝ }
-    ensures { λ _. ⌜ now (text .exit) ≡ filled (length (now (row .entry)) + 1) (λ x. cond (ltb x (length (now (row .entry)))) (pixelText (getD (now (row .entry)) x 0)) newline) (now (text .entry)) ⌝ }
+    ensures { λ _. ⌜
+        now (text .exit)
+        ≡ filled (length (now (row .entry)) + 1) (λ x. cond (ltb x (length (now (row .entry)))) (pixelText (getD (now (row .entry)) x 0)) newline)
+        (now (text .entry))
+        ⌝ }
 {
     let mut x = 0;
     while x < row.len() {

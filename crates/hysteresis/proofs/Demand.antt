@@ -177,7 +177,8 @@ module _ (d : Size) (hi lo : ℕ → Bool) where
       let a = call-keeps b s k h e in
       let r = calls-keep cs (afterSlice d b s) (k + spentBy (slice b) (heldOf d s)) (a .inv) (a .finished) in
       record { now = r .now; is = r .is; inv = r .inv; finished = r .finished ∙ ap (min N) (add-assoc k _ _) }
-  calls-keep (map out ∷ cs) s k h e = let r = calls-keep cs s k h e in record { now = r .now; is = r .is; inv = r .inv; finished = omega (arith, r .finished) }
+  calls-keep (map out ∷ cs) s k h e =
+      let r = calls-keep cs s k h e in record { now = r .now; is = r .is; inv = r .inv; finished = omega (arith, r .finished) }
 
 -- ---- an accepted start
 

@@ -99,7 +99,10 @@ pub(crate) fn take_until(
     budget: usize,
 ) -> Made
     requires { ⌜ Fit size (state (now marks) (now stack) pending) ⌝ }
-    ensures { λ r. ⌜ (state (now (marks .exit)) (now (stack .exit)) (r .pending) ≡ sliced size budget (state (now (marks .entry)) (now (stack .entry)) pending)) × (r .takes ≡ takes size budget (state (now (marks .entry)) (now (stack .entry)) pending)) ⌝ }
+    ensures { λ r. ⌜
+        (state (now (marks .exit)) (now (stack .exit)) (r .pending) ≡ sliced size budget (state (now (marks .entry)) (now (stack .entry)) pending))
+        × (r .takes ≡ takes size budget (state (now (marks .entry)) (now (stack .entry)) pending))
+        ⌝ }
 {
     let mut left = pending;
     let mut done = 0;

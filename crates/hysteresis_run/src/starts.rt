@@ -7,7 +7,7 @@ use rules::Size;
 use rules::Started;
 use rules::Thresholds;
 use rules::Walk;
-use rules::pattern::float;
+use rules::codes::float;
 
 // The case: the sides, how many magnitudes there are (all 5), low and high, how many marks and how many places, and the number.
 pub(crate) fn run(case: &[u32; 80]) {

@@ -6,7 +6,7 @@ use rules::Size;
 use rules::Started;
 use rules::Thresholds;
 use rules::Walk;
-use rules::pattern::float;
+use rules::codes::float;
 
 // The case: low and high at 1 and 2, the magnitudes from 3 on, the map from 12 and what is pending after the start at 22. From 23 on the
 // budget, the takes and the marks that are 3, of each slice. At 32 the number of a map request after the first slice, and from 33 on the

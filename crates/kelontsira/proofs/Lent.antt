@@ -47,7 +47,8 @@ module _ {A : Type 0} (lent : A) where
   map-told m call e = ap mapSays e
 
 -- the resolver's answer, a case v of which was met
-pub case-of : (z : ℤ) (side : ℕ) (mode : BorderMode) (r v : Coord) → SFits w64 z → coordSays r ≡ resolveCoord (toZ w64 (ofZ w64 z)) side mode → r ≡ v → coordSays v ≡ resolveCoord z side mode
+pub case-of : (z : ℤ) (side : ℕ) (mode : BorderMode) (r v : Coord) → SFits w64 z → coordSays r ≡ resolveCoord (toZ w64 (ofZ w64 z)) side mode → r ≡ v
+    → coordSays v ≡ resolveCoord z side mode
 case-of z side mode r v f e q = sym (ap coordSays q) ∙ (rw (toZ-ofZ w64 z f) at e)
 
 module _ (side old : ℕ) (call : ℕ × Option ℕ) where

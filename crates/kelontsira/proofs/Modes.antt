@@ -3,7 +3,8 @@ use mathlib.Core.Path.{_≡_, ap, _∙_}
 use Prim.Native.Nat.{ℕ, _<_, _≤_}
 use borrow.Author.Tests.{lt-ltb, le-ltb}
 use Rattle.rules.specs.declared.BorderMode.{BorderMode}
-use Rattle.kelontsira.specs.Exports.{modeOf, bordered}
+use Rattle.rules.specs.Border.{modeOf}
+use Rattle.kelontsira.specs.Exports.{bordered}
 
 module _ {A : Type 0} (border : ℕ) (kept : A) (call : BorderMode → ℕ × A) where
   pub unknown : 2 < border → (255, kept) ≡ bordered border kept call

@@ -3,7 +3,7 @@
 use Prim.Native.Nat.{ℕ}
 use mathlib.Core.Bool.{cond}
 use mathlib.Core.Option.{Option, some, none}
-use lib.Dec.{eqb, ltb}
+use lib.Dec.{ltb}
 use lib.Ieee.{Float}
 use Rattle.rules.specs.Calls.{accepted}
 use Rattle.rules.specs.declared.Size.{Size}
@@ -16,7 +16,7 @@ use Rattle.rules.specs.declared.Sliced.{Sliced}
 use Rattle.rules.specs.declared.Mapped.{Mapped}
 use Rattle.rules.specs.declared.Counted.{Counted}
 use Rattle.rules.specs.declared.BorderMode.{BorderMode}
-use Rattle.rules.specs.declared.BorderMode.the-variants.{Zero, Clamp, Mirror}
+use Rattle.rules.specs.Border.{modeOf}
 
 -- ---- numbers for records
 
@@ -40,10 +40,6 @@ abbrev pub numbersOf : Walk → ℕ × (ℕ × ℕ)
 numbersOf w = (w .width, (w .height, w .pending))
 
 -- ---- border modes by number
-
--- 0, 1 and 2; no number over 2 reaches this
-abbrev pub modeOf : ℕ → BorderMode
-modeOf n = cond (eqb n 0) Zero (cond (eqb n 1) Clamp Mirror)
 
 -- An unknown mode is refused with 255 before every row of the call's own, and leaves what is lent as it was.
 unfoldable pub bordered {ℓ} : {A : Type ℓ} → ℕ → A → (BorderMode → ℕ × A) → ℕ × A

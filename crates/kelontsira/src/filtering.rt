@@ -1,7 +1,6 @@
 // The filters for C: resolver, kernels, blurs, sharpen, median and Sobel's bytes.
 use crate::border::LAST_MODE;
 use crate::border::REFUSED_BORDER;
-use crate::border::mode_of;
 use filters::box_blur::BoxBlurFilter;
 use filters::convolution::apply_kernel;
 use filters::convolution::apply_separable_kernel;
@@ -15,6 +14,7 @@ use rules::Kernel;
 use rules::REFUSED_SIDE;
 use rules::SeparableKernel;
 use rules::Size;
+use rules::codes::mode_of;
 use sobel::SobelFilter;
 use sobel::sobel_byte;
 ghost use mathlib.Core.Path.{_≡_};
@@ -29,7 +29,10 @@ pub extern "C" fn kelontsira_resolve_coord(
     border: u8,
     place: &mut usize,
 ) -> u8
-    ensures { λ r. ⌜ (r, now (place .exit)) ≡ bordered border (now (place .entry)) (λ b. placed side (now (place .entry)) (Calls.resolveCoord coord side b)) ⌝ }
+    ensures { λ r. ⌜
+        (r, now (place .exit))
+        ≡ bordered border (now (place .entry)) (λ b. placed side (now (place .entry)) (Calls.resolveCoord coord side b))
+        ⌝ }
 {
     if LAST_MODE < border {
         return REFUSED_BORDER;
@@ -58,7 +61,11 @@ pub extern "C" fn kelontsira_apply_kernel(
     border: u8,
     out: &mut [u8],
 ) -> u8
-    ensures { λ r. ⌜ (r, now (out .exit)) ≡ bordered border (now (out .entry)) (λ b. Calls.applyKernel (sides width height) (kernelOf columns rows) b (now (pixels .entry)) (now (weights .entry)) (now (out .entry))) ⌝ }
+    ensures { λ r. ⌜
+        (r, now (out .exit))
+        ≡ bordered border (now (out .entry))
+        (λ b. Calls.applyKernel (sides width height) (kernelOf columns rows) b (now (pixels .entry)) (now (weights .entry)) (now (out .entry)))
+        ⌝ }
 {
     if LAST_MODE < border {
         return REFUSED_BORDER;
@@ -90,7 +97,12 @@ pub extern "C" fn kelontsira_apply_separable_kernel(
     work: &mut [f32],
     out: &mut [u8],
 ) -> u8
-    ensures { λ r. ⌜ (r, (now (work .exit), now (out .exit))) ≡ bordered border (now (work .entry), now (out .entry)) (λ b. Calls.applySeparableKernel (sides width height) (tapsOf across down) b (now (pixels .entry)) (now (horizontal .entry)) (now (vertical .entry)) (now (work .entry)) (now (out .entry))) ⌝ }
+    ensures { λ r. ⌜
+        (r, (now (work .exit), now (out .exit)))
+        ≡ bordered border (now (work .entry), now (out .entry))
+        (λ b. Calls.applySeparableKernel (sides width height) (tapsOf across down) b (now (pixels .entry)) (now (horizontal .entry))
+        (now (vertical .entry)) (now (work .entry)) (now (out .entry)))
+        ⌝ }
 {
     if LAST_MODE < border {
         return REFUSED_BORDER;
@@ -121,7 +133,11 @@ pub extern "C" fn kelontsira_gaussian_blur(
     work: &mut [f32],
     out: &mut [u8],
 ) -> u8
-    ensures { λ r. ⌜ (r, (now (work .exit), now (out .exit))) ≡ bordered border (now (work .entry), now (out .entry)) (λ b. Calls.gaussianBlur (sides width height) b (now (pixels .entry)) (now (taps .entry)) (now (work .entry)) (now (out .entry))) ⌝ }
+    ensures { λ r. ⌜
+        (r, (now (work .exit), now (out .exit)))
+        ≡ bordered border (now (work .entry), now (out .entry))
+        (λ b. Calls.gaussianBlur (sides width height) b (now (pixels .entry)) (now (taps .entry)) (now (work .entry)) (now (out .entry)))
+        ⌝ }
 {
     if LAST_MODE < border {
         return REFUSED_BORDER;
@@ -145,7 +161,11 @@ pub extern "C" fn kelontsira_box_blur(
     work: &mut [f32],
     out: &mut [u8],
 ) -> u8
-    ensures { λ r. ⌜ (r, (now (work .exit), now (out .exit))) ≡ bordered border (now (work .entry), now (out .entry)) (λ b. Calls.boxBlur (sides width height) b (now (pixels .entry)) (now (work .entry)) (now (out .entry))) ⌝ }
+    ensures { λ r. ⌜
+        (r, (now (work .exit), now (out .exit)))
+        ≡ bordered border (now (work .entry), now (out .entry))
+        (λ b. Calls.boxBlur (sides width height) b (now (pixels .entry)) (now (work .entry)) (now (out .entry)))
+        ⌝ }
 {
     if LAST_MODE < border {
         return REFUSED_BORDER;
@@ -164,7 +184,10 @@ pub extern "C" fn kelontsira_sharpen(
     border: u8,
     out: &mut [u8],
 ) -> u8
-    ensures { λ r. ⌜ (r, now (out .exit)) ≡ bordered border (now (out .entry)) (λ b. Calls.sharpen (sides width height) b (now (pixels .entry)) (now (out .entry))) ⌝ }
+    ensures { λ r. ⌜
+        (r, now (out .exit))
+        ≡ bordered border (now (out .entry)) (λ b. Calls.sharpen (sides width height) b (now (pixels .entry)) (now (out .entry)))
+        ⌝ }
 {
     if LAST_MODE < border {
         return REFUSED_BORDER;
@@ -184,7 +207,10 @@ pub extern "C" fn kelontsira_median(
     border: u8,
     out: &mut [u8],
 ) -> u8
-    ensures { λ r. ⌜ (r, now (out .exit)) ≡ bordered border (now (out .entry)) (λ b. Calls.median (sides width height) window b (now (pixels .entry)) (now (out .entry))) ⌝ }
+    ensures { λ r. ⌜
+        (r, now (out .exit))
+        ≡ bordered border (now (out .entry)) (λ b. Calls.median (sides width height) window b (now (pixels .entry)) (now (out .entry)))
+        ⌝ }
 {
     if LAST_MODE < border {
         return REFUSED_BORDER;
@@ -204,7 +230,10 @@ pub extern "C" fn kelontsira_sobel(
     border: u8,
     out: &mut [u8],
 ) -> u8
-    ensures { λ r. ⌜ (r, now (out .exit)) ≡ bordered border (now (out .entry)) (λ b. Calls.sobel (sides width height) b (now (pixels .entry)) (now (out .entry))) ⌝ }
+    ensures { λ r. ⌜
+        (r, now (out .exit))
+        ≡ bordered border (now (out .entry)) (λ b. Calls.sobel (sides width height) b (now (pixels .entry)) (now (out .entry)))
+        ⌝ }
 {
     if LAST_MODE < border {
         return REFUSED_BORDER;

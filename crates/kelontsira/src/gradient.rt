@@ -1,8 +1,8 @@
 // Gradient, sector, magnitude and suppression for C.
 use crate::border::LAST_MODE;
 use crate::border::REFUSED_BORDER;
-use crate::border::mode_of;
 use rules::Size;
+use rules::codes::mode_of;
 use sobel::sobel_gradients;
 use suppression::gradient_magnitude;
 use suppression::magnitude_of;
@@ -23,7 +23,11 @@ pub extern "C" fn kelontsira_sobel_gradients(
     gx: &mut [i16],
     gy: &mut [i16],
 ) -> u8
-    ensures { λ r. ⌜ (r, (now (gx .exit), now (gy .exit))) ≡ bordered border (now (gx .entry), now (gy .entry)) (λ b. Calls.sobelGradients (sides width height) b (now (pixels .entry)) (now (gx .entry)) (now (gy .entry))) ⌝ }
+    ensures { λ r. ⌜
+        (r, (now (gx .exit), now (gy .exit)))
+        ≡ bordered border (now (gx .entry), now (gy .entry))
+        (λ b. Calls.sobelGradients (sides width height) b (now (pixels .entry)) (now (gx .entry)) (now (gy .entry)))
+        ⌝ }
 {
     if LAST_MODE < border {
         return REFUSED_BORDER;
@@ -53,7 +57,10 @@ pub extern "C" fn kelontsira_gradient_magnitude(
     height: usize,
     magnitude: &mut [f32],
 ) -> u8
-    ensures { λ r. ⌜ (r, now (magnitude .exit)) ≡ Calls.gradientMagnitude (sides width height) (now (gx .entry)) (now (gy .entry)) (now (magnitude .entry)) ⌝ }
+    ensures { λ r. ⌜
+        (r, now (magnitude .exit))
+        ≡ Calls.gradientMagnitude (sides width height) (now (gx .entry)) (now (gy .entry)) (now (magnitude .entry))
+        ⌝ }
 {
     gradient_magnitude(gx, gy, Size { width, height }, magnitude)
 }
@@ -67,7 +74,10 @@ pub extern "C" fn kelontsira_non_maximum_suppression(
     height: usize,
     out: &mut [f32],
 ) -> u8
-    ensures { λ r. ⌜ (r, now (out .exit)) ≡ Calls.nonMaximumSuppression (sides width height) (now (magnitude .entry)) (now (gx .entry)) (now (gy .entry)) (now (out .entry)) ⌝ }
+    ensures { λ r. ⌜
+        (r, now (out .exit))
+        ≡ Calls.nonMaximumSuppression (sides width height) (now (magnitude .entry)) (now (gx .entry)) (now (gy .entry)) (now (out .entry))
+        ⌝ }
 {
     non_maximum_suppression(magnitude, gx, gy, Size { width, height }, out)
 }

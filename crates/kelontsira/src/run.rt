@@ -38,7 +38,13 @@ pub extern "C" fn kelontsira_canny(
     map: &mut [u8],
     count: &mut usize,
 ) -> u8
-    ensures { λ r. ⌜ (r, (now (count .exit), (now (map .exit), scratch (now (work .exit)) (now (magnitude .exit)) (now (gx .exit)) (now (gy .exit)) (now (blurred .exit)) (now (marks .exit)) (now (stack .exit))))) ≡ runSays (now (count .entry)) (Run.canny (sides width height) (now (pixels .entry)) (now (taps .entry)) (between low high) (scratch (now (work .entry)) (now (magnitude .entry)) (now (gx .entry)) (now (gy .entry)) (now (blurred .entry)) (now (marks .entry)) (now (stack .entry))) (now (map .entry))) ⌝ }
+    ensures { λ r. ⌜
+        (r, (now (count .exit), (now (map .exit), scratch (now (work .exit)) (now (magnitude .exit)) (now (gx .exit)) (now (gy .exit)) (now (blurred .exit)) (now (marks .exit)) (now (stack .exit)))))
+        ≡ runSays (now (count .entry))
+        (Run.canny (sides width height) (now (pixels .entry)) (now (taps .entry)) (between low high)
+        (scratch (now (work .entry)) (now (magnitude .entry)) (now (gx .entry)) (now (gy .entry)) (now (blurred .entry)) (now (marks .entry)) (now (stack .entry)))
+        (now (map .entry)))
+        ⌝ }
 {
     let counted = canny(
         pixels,

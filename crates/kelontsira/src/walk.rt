@@ -23,7 +23,11 @@ pub extern "C" fn kelontsira_start(
     tall: &mut usize,
     pending: &mut usize,
 ) -> u8
-    ensures { λ r. ⌜ (r, ((now (wide .exit), (now (tall .exit), now (pending .exit))), (now (marks .exit), now (stack .exit)))) ≡ startSays (now (wide .entry), (now (tall .entry), now (pending .entry))) (Calls.start (sides width height) (between low high) (now (magnitudes .entry)) (now (marks .entry)) (now (stack .entry))) ⌝ }
+    ensures { λ r. ⌜
+        (r, ((now (wide .exit), (now (tall .exit), now (pending .exit))), (now (marks .exit), now (stack .exit))))
+        ≡ startSays (now (wide .entry), (now (tall .entry), now (pending .entry)))
+        (Calls.start (sides width height) (between low high) (now (magnitudes .entry)) (now (marks .entry)) (now (stack .entry)))
+        ⌝ }
 {
     let started = start(
         magnitudes,
@@ -51,7 +55,11 @@ pub extern "C" fn kelontsira_slice(
     stack: &mut [u32],
     takes: &mut usize,
 ) -> u8
-    ensures { λ r. ⌜ (r, ((now (takes .exit), (now (wide .exit), (now (tall .exit), now (pending .exit)))), (now (marks .exit), now (stack .exit)))) ≡ sliceSays (now (takes .entry)) (now (wide .entry), (now (tall .entry), now (pending .entry))) (Calls.slice (walkOf (now (wide .entry)) (now (tall .entry)) (now (pending .entry))) budget (now (marks .entry)) (now (stack .entry))) ⌝ }
+    ensures { λ r. ⌜
+        (r, ((now (takes .exit), (now (wide .exit), (now (tall .exit), now (pending .exit)))), (now (marks .exit), now (stack .exit))))
+        ≡ sliceSays (now (takes .entry)) (now (wide .entry), (now (tall .entry), now (pending .entry)))
+        (Calls.slice (walkOf (now (wide .entry)) (now (tall .entry)) (now (pending .entry))) budget (now (marks .entry)) (now (stack .entry)))
+        ⌝ }
 {
     let walk = Walk {
         width: *wide,
@@ -78,7 +86,10 @@ pub extern "C" fn kelontsira_map(
     stack: &[u32],
     out: &mut [u8],
 ) -> u8
-    ensures { λ r. ⌜ (r, now (out .exit)) ≡ mapSays (Calls.map (walkOf wide tall pending) (now (marks .entry)) (now (stack .entry)) (now (out .entry))) ⌝ }
+    ensures { λ r. ⌜
+        (r, now (out .exit))
+        ≡ mapSays (Calls.map (walkOf wide tall pending) (now (marks .entry)) (now (stack .entry)) (now (out .entry)))
+        ⌝ }
 {
     let walk = Walk {
         width: wide,

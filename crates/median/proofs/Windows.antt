@@ -19,9 +19,11 @@ use Rattle.rules.proofs.Grid.{column-of, row-of}
 use Rattle.rules.proofs.Tallies.{tally-all, tally-eq}
 use Rattle.rules.proofs.Sorting.{fewer, selected}
 use Rattle.rules.proofs.Gradients.{sample-byte}
-use Rattle.median.specs.Counts.{medianOf, rowPlace, columnPlace, columnAt, columnOf, inColumns, sumOf, equals, belows, countedBelow, putAll, takeAll, Counts, Counted, Middle, Selected, Holds, Rows, About}
+use Rattle.median.specs.Counts.{medianOf, rowPlace, columnPlace, columnAt, columnOf, inColumns, sumOf, equals, belows, countedBelow, putAll, takeAll}
+use Rattle.median.specs.Counts.{Counts, Counted, Middle, Selected, Holds, Rows, About}
 use Rattle.border.proofs.Reading.{read-byte, read-is}
-use Rattle.median.proofs.Counting.{sum-cong, sum-more, sum-first, sum-equals, change-length, put-at, put-below, take-at, take-below, by-columns, occurrences-tabulate, below-is}
+use Rattle.median.proofs.Counting.{sum-cong, sum-more, sum-first, sum-equals, change-length, put-at, put-below, take-at, take-below, by-columns}
+use Rattle.median.proofs.Counting.{occurrences-tabulate, below-is}
 
 sum-most : (g : ℕ → ℕ) (n b : ℕ) → ((i : ℕ) → g i ≤ b) → sumOf g n ≤ n * b
 unfolding sumOf
@@ -153,7 +155,8 @@ module _ {pixels : List ℕ} {d : Size} {mode : BorderMode} {rows : List ℕ} wh
         ∙ tally-full _ area (λ j. lt-ltb (samples j) 256 (omega (arith, small (j % length rows) (j / length rows))))
 
     -- as it stands at the pixel's index
-    pub median-at : {value below : ℕ} → x < d .width → Selected counts (area / 2) value below → value ≡ medianOf d (length rows) mode pixels (y * d .width + x)
+    pub median-at : {value below : ℕ} → x < d .width → Selected counts (area / 2) value below
+        → value ≡ medianOf d (length rows) mode pixels (y * d .width + x)
     unfolding medianAt windowAt
     median-at {value} l s =
         let w = tabulate area samples in

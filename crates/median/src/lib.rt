@@ -200,7 +200,10 @@ fn slide(pixels: &[u8], size: Size, border: BorderMode, rows: &[usize], y: usize
         × About size border y (now rows)
         × (area size ≤ length (now out))
         ⌝ }
-    ensures { λ _. ⌜ now (out .exit) ≡ writtenRow size y (medianOf size (length (now (rows .entry))) border (now (pixels .entry))) (now (out .entry)) ⌝ }
+    ensures { λ _. ⌜
+        now (out .exit)
+        ≡ writtenRow size y (medianOf size (length (now (rows .entry))) border (now (pixels .entry))) (now (out .entry))
+        ⌝ }
 {
     let mut counts = [0u16; 256];
     first_window(pixels, size, border, rows, &mut counts);

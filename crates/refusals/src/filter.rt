@@ -83,7 +83,11 @@ pub fn of_separable(
     work: &[f32],
     out: &[u8],
 ) -> u8
-    ensures { λ r. ⌜ r ≡ first (separableRows size kernel (now (pixels .entry)) (now (horizontal .entry)) (now (vertical .entry)) (now (work .entry)) (now (out .entry))) ⌝ }
+    ensures { λ r. ⌜
+        r
+        ≡ first
+        (separableRows size kernel (now (pixels .entry)) (now (horizontal .entry)) (now (vertical .entry)) (now (work .entry)) (now (out .entry)))
+        ⌝ }
 {
     let refusal = of_picture(pixels, size);
     if refusal != ACCEPTED {

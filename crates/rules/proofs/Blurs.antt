@@ -23,7 +23,8 @@ never : (b : Bool) (n rest : ℕ) → b ≡ false → cond b n (cond b n rest) �
 never b n rest e = rw e
 
 -- the same taps both ways are tested once
-blur-number : (d : Size) (pixels : List ℕ) (taps work : List Float) (out : List ℕ) → first (separableRows d (bothWays (length taps)) pixels taps taps work out) ≡ first (blurRows d pixels taps work out)
+blur-number : (d : Size) (pixels : List ℕ) (taps work : List Float) (out : List ℕ)
+    → first (separableRows d (bothWays (length taps)) pixels taps taps work out) ≡ first (blurRows d pixels taps work out)
 blur-number d pixels taps work out =
     let room : ℕ = cond (roomRow d work .applies) 7 (cond (roomRow d out .applies) 7 0) in
     let weights = weightRow taps .applies in
@@ -32,13 +33,15 @@ blur-number d pixels taps work out =
     ap (λ (n : ℕ). cond (sideRow d .applies) 1 (cond (inputRow d pixels .applies) 2 n))
     (twice counts 3 _ ∙ ap (λ (n : ℕ). cond counts 3 n) (never (matchRow (length taps) taps .applies) 3 _ same ∙ twice weights 4 room))
 
-pub blur-is : (d : Size) (mode : BorderMode) (pixels : List ℕ) (taps work : List Float) (out : List ℕ) → applySeparableKernel d (bothWays (length taps)) mode pixels taps taps work out ≡ gaussianBlur d mode pixels taps work out
+pub blur-is : (d : Size) (mode : BorderMode) (pixels : List ℕ) (taps work : List Float) (out : List ℕ)
+    → applySeparableKernel d (bothWays (length taps)) mode pixels taps taps work out ≡ gaussianBlur d mode pixels taps work out
 unfolding applySeparableKernel gaussianBlur
 blur-is d mode pixels taps work out =
     ap (λ (n : ℕ). answered n (separated d (bothWays (length taps)) mode pixels taps taps work out) (work, out)) (blur-number d pixels taps work out)
 
 -- the box's taps and the sharpening weights are finite and as many as they should be: computed
-pub box-is : (d : Size) (mode : BorderMode) (pixels : List ℕ) (work : List Float) (out : List ℕ) → gaussianBlur d mode pixels boxTaps work out ≡ boxBlur d mode pixels work out
+pub box-is : (d : Size) (mode : BorderMode) (pixels : List ℕ) (work : List Float) (out : List ℕ)
+    → gaussianBlur d mode pixels boxTaps work out ≡ boxBlur d mode pixels work out
 unfolding gaussianBlur boxBlur anyBelow ofBits
 box-is d mode pixels work out = refl
 

@@ -76,7 +76,8 @@ module _ {A : Type 0} where
   filling-start {n} {f} {o} = record { within = omega arith; same = refl; is = fill-start f o }
 
   pub filling-more : {n i : ℕ} {f : ℕ → A} {o l : List A} {v : A} → n ≤ length o → i < n → Filling n i f o l → v ≡ f i → Filling n (i + 1) f o (set l i v)
-  filling-more {n} {i} {f} {o} {l} {v} h k p q = record { within = omega arith; same = length-set l i v ∙ p .same; is = fill-more i f o l v (omega arith) (p .is) q }
+  filling-more {n} {i} {f} {o} {l} {v} h k p q =
+      record { within = omega arith; same = length-set l i v ∙ p .same; is = fill-more i f o l v (omega arith) (p .is) q }
 
   pub filling-end : {n i : ℕ} {f : ℕ → A} {o l : List A} → Filling n i f o l → n ≤ i → l ≡ filled n f o
   filling-end {n} {i} p h = let e : i ≡ n = omega (arith, p .within) in rw e at (p .is)

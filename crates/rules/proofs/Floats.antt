@@ -26,4 +26,5 @@ between (fin false m e) = refl
 -- a whole number below 2^24, as an f32, has that value
 pub whole-exact : (n : ℕ) → n < 2 ^ 24 → HasValue (wholeF32 (pos n)) false n 1
 unfolding ofInt
-whole-exact n h = round-exact binary32 false n 1 n 149 (omega arith) h (lt-of-lt-of-le (shl-lt 24 149 h) (pow-mono {i = 173} {j = 277} (lit≤ tt))) (sym (mul-one _))
+whole-exact n h =
+    round-exact binary32 false n 1 n 149 (omega arith) h (lt-of-lt-of-le (shl-lt 24 149 h) (pow-mono {i = 173} {j = 277} (lit≤ tt))) (sym (mul-one _))

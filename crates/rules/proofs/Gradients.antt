@@ -130,7 +130,8 @@ module _ (s : ℕ → ℕ) (b : Bytes s) where
 abbrev pub nineAt : Size → BorderMode → List ℕ → ℕ → ℕ → ℕ → ℕ
 nineAt d mode pixels x y j = byteSample pixels d mode (under x 3 (j % 3)) (under y 3 (j / 3))
 
-pub gradient-is : (table : List ℤ) (d : Size) (mode : BorderMode) (pixels : List ℕ) (x y : ℕ) → gradientAt table d mode pixels x y ≡ weighted table (nineAt d mode pixels x y)
+pub gradient-is : (table : List ℤ) (d : Size) (mode : BorderMode) (pixels : List ℕ) (x y : ℕ)
+    → gradientAt table d mode pixels x y ≡ weighted table (nineAt d mode pixels x y)
 unfolding gradientAt gradientTerm weighted
 gradient-is table d mode pixels x y = refl
 
@@ -148,24 +149,31 @@ module _ (d : Size) (mode : BorderMode) (pixels : List ℕ) (byte : (i : ℕ) �
   sample-byte cx cy = entry-byte (resolved mode cx (d .width)) (resolved mode cy (d .height))
 
   module _ (x y : ℕ) where
+    -- the two components
+    abbrev pub gx : ℤ
+    gx = gradientAt gxTable d mode pixels x y
+
+    abbrev pub gy : ℤ
+    gy = gradientAt gyTable d mode pixels x y
+
     abbrev nine : ℕ → ℕ
     nine = nineAt d mode pixels x y
 
     nine-bytes : Bytes nine
     nine-bytes j = sample-byte (under x 3 (j % 3)) (under y 3 (j / 3))
 
-    pub gx-within : natAbs (gradientAt gxTable d mode pixels x y) ≤ 1020
+    pub gx-within : natAbs gx ≤ 1020
     gx-within = rw (gradient-is gxTable d mode pixels x y) (gx-small nine nine-bytes)
 
-    pub gy-within : natAbs (gradientAt gyTable d mode pixels x y) ≤ 1020
+    pub gy-within : natAbs gy ≤ 1020
     gy-within = rw (gradient-is gyTable d mode pixels x y) (gy-small nine nine-bytes)
 
-    pub same-parity : natAbs (gradientAt gxTable d mode pixels x y) % 2 ≡ natAbs (gradientAt gyTable d mode pixels x y) % 2
+    pub same-parity : natAbs gx % 2 ≡ natAbs gy % 2
     same-parity = rw (gradient-is gxTable d mode pixels x y, gradient-is gyTable d mode pixels x y) (one-parity nine nine-bytes)
 
-    pub energy-within : energy (gradientAt gxTable d mode pixels x y) (gradientAt gyTable d mode pixels x y) ≤ 2080800
+    pub energy-within : energy gx gy ≤ 2080800
     energy-within = rw (gradient-is gxTable d mode pixels x y, gradient-is gyTable d mode pixels x y) (energy-small nine nine-bytes)
 
     -- so S is exact as an f32 (01.Gradient.3); the port keeps it a whole number
-    pub energy-exact : HasValue (wholeF32 (pos (energy (gradientAt gxTable d mode pixels x y) (gradientAt gyTable d mode pixels x y)))) false (energy (gradientAt gxTable d mode pixels x y) (gradientAt gyTable d mode pixels x y)) 1
+    pub energy-exact : HasValue (wholeF32 (pos (energy gx gy))) false (energy gx gy) 1
     energy-exact = whole-exact _ (omega (arith, energy-within))

@@ -3,7 +3,8 @@
 use mathlib.Core.Path.{_≡_, refl, ap, ap₂}
 use mathlib.Core.Bool.{Bool, true, false, cond}
 use Prim.Native.Nat.{ℕ, zero, suc, _+_, _-_, _*_, _/_, _^_, _<_, _≤_}
-use native.Mathlib.Nat.{mul-le-mul, mul-le-mul-left, mul-assoc, mul-left-comm, mul-add, add-mul, pow-suc, pow-succ', pow-le-pow-right, lt-irrefl, lt-of-not-le}
+use native.Mathlib.Nat.{mul-le-mul, mul-le-mul-left, mul-assoc, mul-left-comm, mul-add, add-mul, pow-suc, pow-succ', pow-le-pow-right, lt-irrefl}
+use native.Mathlib.Nat.{lt-of-not-le}
 use native.Mathlib.Omega.{arith}
 use lib.Dec.{leb, ltb}
 use lib.Pow.{pow-add}

@@ -38,6 +38,11 @@ off (r ∷ rs) t e =
     let p = passed (r .applies) (r .number) (first rs) (ltb→lt 0 (r .number) (and-l (ltb 0 (r .number)) (numbered rs) t)) e in
     (p .0, off rs (and-r (ltb 0 (r .number)) (numbered rs) t) (p .1))
 
+-- and where no row applies the number is 0
+pub none : (rs : List Rule) → Off rs → first rs ≡ 0
+none [] o = refl
+none (r ∷ rs) o = rw (o .0) (none rs (o .1))
+
 -- ---- what a row that does not apply says
 
 pub record Sides (d : Size) : Type 0 where

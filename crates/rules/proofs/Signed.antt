@@ -45,7 +45,8 @@ natural-of z f t =
     bound (pos n) e h = h
     bound (negsuc n) e h = absurd (clash refl e)
 
-pub cast-natural : (z : ℤ) → SFits w64 z → ltZ (toZ w64 (ofZ w64 z)) (pos 0) ≡ false → T (nonNeg (toZ w64 (ofZ w64 z))) × Fits w64 (natAbs (toZ w64 (ofZ w64 z)))
+pub cast-natural : (z : ℤ) → SFits w64 z → ltZ (toZ w64 (ofZ w64 z)) (pos 0) ≡ false
+    → T (nonNeg (toZ w64 (ofZ w64 z))) × Fits w64 (natAbs (toZ w64 (ofZ w64 z)))
 cast-natural z f t = let n = natural-of z f t in cast-of _ _ (toZ-ofZ w64 z f ∙ n .is) (n .small)
 
 -- ---- the remainder of an i64 by a small p, mended where it is negative

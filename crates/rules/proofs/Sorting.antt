@@ -122,7 +122,8 @@ unfolding insert occurrences
 insert-same v a [] = refl
 insert-same v a (b ∷ l) = go (leb a b) (insert-same v a l)
   where
-    go : (t : Bool) → occurrences v (insert a l) ≡ bit (eqb a v) + occurrences v l → occurrences v (cond t (a ∷ b ∷ l) (b ∷ insert a l)) ≡ bit (eqb a v) + (bit (eqb b v) + occurrences v l)
+    go : (t : Bool) → occurrences v (insert a l) ≡ bit (eqb a v) + occurrences v l
+        → occurrences v (cond t (a ∷ b ∷ l) (b ∷ insert a l)) ≡ bit (eqb a v) + (bit (eqb b v) + occurrences v l)
     go true ih = refl
     go false ih = omega arith
 

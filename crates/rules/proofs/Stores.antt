@@ -8,7 +8,8 @@ use lib.ListN.{length, getD, set}
 use lib.Seq.{getD-set-same, getD-set-other}
 
 -- the one stored, or the one that was there
-pub at-set : {A : Type 0} (l : List A) (i : ℕ) (a z : A) (j : ℕ) → i < length l → ((j ≡ i) × (getD (set l i a) j z ≡ a)) ⊎ ((j ≢ i) × (getD (set l i a) j z ≡ getD l j z))
+pub at-set : {A : Type 0} (l : List A) (i : ℕ) (a z : A) (j : ℕ) → i < length l
+    → ((j ≡ i) × (getD (set l i a) j z ≡ a)) ⊎ ((j ≢ i) × (getD (set l i a) j z ≡ getD l j z))
 at-set {A} l i a z j h = go (ℕ-discrete j i)
   where
     go : Dec (j ≡ i) → ((j ≡ i) × (getD (set l i a) j z ≡ a)) ⊎ ((j ≢ i) × (getD (set l i a) j z ≡ getD l j z))

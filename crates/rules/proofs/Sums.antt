@@ -42,7 +42,8 @@ pub record Summing (w most k : ℕ) (t : ℕ → ℕ → Float) (o l : List Floa
   pub is : l ≡ summed w t k o
 
 -- cleared from e
-pub summing-start : {w most : ℕ} {t : ℕ → ℕ → Float} {o : List Float} (e : List Float) → w ≤ length e → o ≡ filled w (λ x. plusZero) e → Summing w most 0 t o o
+pub summing-start : {w most : ℕ} {t : ℕ → ℕ → Float} {o : List Float} (e : List Float) → w ≤ length e → o ≡ filled w (λ x. plusZero) e
+    → Summing w most 0 t o o
 summing-start {w} {most} {t} {o} e h p =
     record {
       within = omega arith;
@@ -51,12 +52,14 @@ summing-start {w} {most} {t} {o} e h p =
       is = no-terms w t o o (still w (λ x. plusZero) e o p);
     }
 
-pub summing-more : {w most k : ℕ} {t : ℕ → ℕ → Float} {o l r : List Float} → k < most → Summing w most k t o l → r ≡ filled w (oneMore l t k) l → Summing w most (k + 1) t o r
+pub summing-more : {w most k : ℕ} {t : ℕ → ℕ → Float} {o l r : List Float} → k < most → Summing w most k t o l → r ≡ filled w (oneMore l t k) l
+    → Summing w most (k + 1) t o r
 summing-more {w} {most} {k} {t} {o} {l} {r} m p q =
     let s = ap length q ∙ length-filled w (oneMore l t k) l (p .room) in
     record { within = omega arith; room = omega (arith, p .room); same = s ∙ p .same; is = one-more w t k o l r (p .is) q }
 
-pub summing-end : {w most k : ℕ} {t : ℕ → ℕ → Float} {o l : List Float} (e : List Float) → o ≡ filled w (λ x. plusZero) e → Summing w most k t o l → most ≤ k → l ≡ summed w t most e
+pub summing-end : {w most k : ℕ} {t : ℕ → ℕ → Float} {o l : List Float} (e : List Float) → o ≡ filled w (λ x. plusZero) e → Summing w most k t o l → most ≤ k
+    → l ≡ summed w t most e
 summing-end {w} {most} {k} {t} {o} {l} e q p h =
     let n : k ≡ most = omega (arith, p .within) in
     refill w (λ x. plusZero) (λ x. orderedSum (t x) most) (λ x. orderedSum (t x) most) e o l q (rw n at (p .is)) (λ x m. refl)

@@ -67,3 +67,9 @@ byteSample pixels d mode cx cy = sampleAt 0 (λ i. getD pixels i 0) d mode cx cy
 -- the coordinate under place k of n, where a window of n places lies centred on x
 abbrev pub under : ℕ → ℕ → ℕ → ℤ
 under x n k = pos (x + k) -ℤ pos (n / 2)
+
+-- ---- modes by number, as exports and cases give them (docs/DECISIONS.md)
+
+-- 0 and 1; all else is the last
+abbrev pub modeOf : ℕ → BorderMode
+modeOf n = cond (eqb n 0) Zero (cond (eqb n 1) Clamp Mirror)

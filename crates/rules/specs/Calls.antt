@@ -18,7 +18,8 @@ use Rattle.rules.specs.Gradient.{gxTable, gyTable, gradientAt, energy}
 use Rattle.rules.specs.Root.{magnitudeOf, sobelByte}
 use Rattle.rules.specs.Suppression.{suppressedAt}
 use Rattle.rules.specs.Walk.{State, state, atLeast, started, sliced, takes, mapped}
-use Rattle.rules.specs.Refusals.{first, coordRows, kernelRows, separableRows, blurRows, boxRows, plainRows, medianRows, gradientRows, magnitudeRows, suppressionRows, startRows, sliceRows, mapRows}
+use Rattle.rules.specs.Refusals.{first, coordRows, kernelRows, separableRows, blurRows, boxRows, plainRows, medianRows, gradientRows, magnitudeRows}
+use Rattle.rules.specs.Refusals.{suppressionRows, startRows, sliceRows, mapRows}
 use Rattle.rules.specs.declared.Size.{Size}
 use Rattle.rules.specs.declared.Kernel.{Kernel}
 use Rattle.rules.specs.declared.SeparableKernel.{SeparableKernel}

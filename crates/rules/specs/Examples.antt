@@ -16,6 +16,8 @@ use Rattle.rules.specs.Calls.{resolveCoord, afterStart}
 use Rattle.rules.specs.Joined.{joinedCount, told, closed, grown}
 use Rattle.rules.specs.Run.{edgesOf, endOf}
 use Rattle.rules.specs.declared.Size.{Size}
+use Rattle.rules.specs.declared.Kernel.{Kernel}
+use Rattle.rules.specs.declared.SeparableKernel.{SeparableKernel}
 use Rattle.rules.specs.declared.Thresholds.{Thresholds}
 use Rattle.rules.specs.declared.BorderMode.{BorderMode}
 use Rattle.rules.specs.declared.BorderMode.the-variants.{Zero, Clamp, Mirror}
@@ -42,17 +44,26 @@ fraction nan = []
 fraction (inf s) = []
 fraction (fin s m e) = m * up e ∷ down e ∷ []
 
+-- the sides of a picture, of a kernel, and of a separable one
+abbrev sides : ℕ → ℕ → Size
+sides w h = record { width = w; height = h }
+
+abbrev weighed : ℕ → ℕ → Kernel
+weighed w h = record { width = w; height = h }
+
+abbrev tapped : ℕ → ℕ → SeparableKernel
+tapped w h = record { horizontal = w; vertical = h }
+
 -- the row 10 20 30 under horizontal taps 1 0 0 and the vertical tap 1
 abbrev row : BorderMode → List ℕ
 row mode =
     let one = wholeF32 (pos 1) in
     let nil = wholeF32 (pos 0) in
-    inRowOrder (record { width = 3; height = 1 })
-    (separableAt (record { width = 3; height = 1 }) (record { horizontal = 3; vertical = 1 }) mode (10 ∷ 20 ∷ 30 ∷ []) (one ∷ nil ∷ nil ∷ []) (one ∷ []))
+    inRowOrder (sides 3 1) (separableAt (sides 3 1) (tapped 3 1) mode (10 ∷ 20 ∷ 30 ∷ []) (one ∷ nil ∷ nil ∷ []) (one ∷ []))
 
 -- the walk over rows 120 60 0 / 0 0 60 / 60 0 0: N by paths, and the map
 abbrev nine : Size
-nine = record { width = 3; height = 3 }
+nine = sides 3 3
 
 abbrev magnitudes : List Float
 magnitudes =
@@ -95,24 +106,23 @@ starred-hold = refl
 -- bytes of 1 under weights 1, -1e8, 1e8 as they are met: 1 is lost in the first sum, and 0 is left. From the other end it would be 1
 abbrev ordered : List ℕ
 ordered =
-    inRowOrder (record { width = 1; height = 1 })
-    (convolvedAt (record { width = 1; height = 1 }) (record { width = 3; height = 1 }) Clamp (1 ∷ []) (wholeF32 (pos 100000000) ∷ wholeF32 (negsuc 99999999) ∷ wholeF32 (pos 1) ∷ []))
+    let weights = wholeF32 (pos 100000000) ∷ wholeF32 (negsuc 99999999) ∷ wholeF32 (pos 1) ∷ [] in
+    inRowOrder (sides 1 1) (convolvedAt (sides 1 1) (weighed 3 1) Clamp (1 ∷ []) weights)
 
 -- a column of 10, 20, 30 under a column of weights 1, 0, 0: flipped, the 1 meets the sample below. Not flipped it would be 10, 10, 20
 abbrev upwards : List ℕ
 upwards =
-    inRowOrder (record { width = 1; height = 3 })
-    (convolvedAt (record { width = 1; height = 3 }) (record { width = 1; height = 3 }) Clamp (10 ∷ 20 ∷ 30 ∷ []) (wholeF32 (pos 1) ∷ wholeF32 (pos 0) ∷ wholeF32 (pos 0) ∷ []))
+    let weights = wholeF32 (pos 1) ∷ wholeF32 (pos 0) ∷ wholeF32 (pos 0) ∷ [] in
+    inRowOrder (sides 1 3) (convolvedAt (sides 1 3) (weighed 1 3) Clamp (10 ∷ 20 ∷ 30 ∷ []) weights)
 
 -- a byte of 1 under a tap of 1/2 across and of 3/4 down: 3/8 is 0. Rounded between the passes it would be 1
 abbrev unrounded : List ℕ
 unrounded =
-    inRowOrder (record { width = 1; height = 1 })
-    (separableAt (record { width = 1; height = 1 }) (record { horizontal = 1; vertical = 1 }) Clamp (1 ∷ []) (ofBits binary32 0x3f00_0000 ∷ []) (ofBits binary32 0x3f40_0000 ∷ []))
+    inRowOrder (sides 1 1) (separableAt (sides 1 1) (tapped 1 1) Clamp (1 ∷ []) (ofBits binary32 0x3f00_0000 ∷ []) (ofBits binary32 0x3f40_0000 ∷ []))
 
 -- a row of 10, 20, 30, sharpened. With a centre of 4 it would be 0, 0, 10
 abbrev sharpened : List ℕ
-sharpened = inRowOrder (record { width = 3; height = 1 }) (convolvedAt (record { width = 3; height = 1 }) sharpenKernel Clamp (10 ∷ 20 ∷ 30 ∷ []) sharpenWeights)
+sharpened = inRowOrder (sides 3 1) (convolvedAt (sides 3 1) sharpenKernel Clamp (10 ∷ 20 ∷ 30 ∷ []) sharpenWeights)
 
 -- the f32 just below 0.5, 0.5, 254.5, -0.5, an infinity and NaN
 abbrev rounded : List ℕ

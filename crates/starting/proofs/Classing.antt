@@ -52,19 +52,23 @@ module _ (hi lo : ℕ → Bool) (marks stack : List ℕ) where
       more : set (marked n) n (markOf (hi n) (lo n)) ≡ marked (suc n)
       more = rw add-one at (fill-more n (λ i. markOf (hi i) (lo i)) marks (marked n) _ h refl refl)
 
-      one : (b : Bool) (s : List ℕ × ℕ) → class b (lo n) n (state (marked n) (s .0) (s .1)) ≡ state (set (marked n) n (markOf b (lo n))) (put b n s .0) (put b n s .1)
+      one : (b : Bool) (s : List ℕ × ℕ)
+          → class b (lo n) n (state (marked n) (s .0) (s .1)) ≡ state (set (marked n) n (markOf b (lo n))) (put b n s .0) (put b n s .1)
       one true s = refl
       one false s = refl
 
   -- so are the code's, whose second reads the marks of the first
-  pub both-passes : (n p : ℕ) (m s : List ℕ) → n ≤ length marks → m ≡ marked n → (s, p) ≡ stacked (has 2 m) n stack → state m s p ≡ classed hi lo n (state marks stack 0)
+  pub both-passes : (n p : ℕ) (m s : List ℕ) → n ≤ length marks → m ≡ marked n → (s, p) ≡ stacked (has 2 m) n stack
+      → state m s p ≡ classed hi lo n (state marks stack 0)
   both-passes n p m s h e f =
-      let t : (s, p) ≡ stacked hi n stack = f ∙ stacked-same (has 2 m) hi n stack (λ i l. ap (λ (k : ℕ). eqb k 2) (filled-at n _ marks m 0 i e l) ∙ strong-only (hi i) (lo i)) in
+      let strong : (i : ℕ) → i < n → has 2 m i ≡ hi i = λ i l. ap (λ (k : ℕ). eqb k 2) (filled-at n _ marks m 0 i e l) ∙ strong-only (hi i) (lo i) in
+      let t : (s, p) ≡ stacked hi n stack = f ∙ stacked-same (has 2 m) hi n stack strong in
       rw (in-two n h, ← t, ← e)
 
 -- ---- places from the pending count on hold 0 (01.Walk.5)
 
-class-zero : (a b : Bool) (k i : ℕ) (t : State) → (t .pending ≤ i → getD (t .stack) i 0 ≡ 0) → class a b k t .pending ≤ i → getD (class a b k t .stack) i 0 ≡ 0
+class-zero : (a b : Bool) (k i : ℕ) (t : State) → (t .pending ≤ i → getD (t .stack) i 0 ≡ 0) → class a b k t .pending ≤ i
+    → getD (class a b k t .stack) i 0 ≡ 0
 unfolding class
 class-zero true b k i t h p = getD-set-other (t .stack) (t .pending) i k 0 (omega arith) ∙ h (omega arith)
 class-zero false b k i t h p = h p

@@ -36,7 +36,11 @@ fn mark_of(m: f32, thresholds: Thresholds) -> u8
 // The first n marks. The stack is filled in a second pass, so that this one looks at several pixels at once.
 fn mark_all(magnitudes: &[f32], thresholds: Thresholds, marks: &mut [u8], n: usize)
     requires { ⌜ (n ≤ length (now magnitudes)) × (n ≤ length (now marks)) ⌝ }
-    ensures { λ _. ⌜ now (marks .exit) ≡ filled n (λ i. markOf (atLeast (thresholds .high) (now (magnitudes .entry)) i) (atLeast (thresholds .low) (now (magnitudes .entry)) i)) (now (marks .entry)) ⌝ }
+    ensures { λ _. ⌜
+        now (marks .exit)
+        ≡ filled n (λ i. markOf (atLeast (thresholds .high) (now (magnitudes .entry)) i) (atLeast (thresholds .low) (now (magnitudes .entry)) i))
+        (now (marks .entry))
+        ⌝ }
 {
     let mut i = 0;
     while i < n {
@@ -79,7 +83,10 @@ pub fn start(
     marks: &mut [u8],
     stack: &mut [u32],
 ) -> Started
-    ensures { λ r. ⌜ (r, (now (marks .exit), now (stack .exit))) ≡ Calls.start size thresholds (now (magnitudes .entry)) (now (marks .entry)) (now (stack .entry)) ⌝ }
+    ensures { λ r. ⌜
+        (r, (now (marks .exit), now (stack .exit)))
+        ≡ Calls.start size thresholds (now (magnitudes .entry)) (now (marks .entry)) (now (stack .entry))
+        ⌝ }
 {
     let refusal = of_start(magnitudes, size, thresholds, marks, stack);
     if refusal != ACCEPTED {

@@ -132,7 +132,10 @@ fn suppress_row(magnitude: &[f32], gx: &[i16], gy: &[i16], start: usize, out: &m
 // A picture with inner pixels: its outer rows are +0, and each row between has a row above it and one below.
 fn suppress_rows(magnitude: &[f32], gx: &[i16], gy: &[i16], size: Size, out: &mut [f32])
     requires { ⌜ Pictures size (now magnitude) (now gx) (now gy) × (area size ≤ length (now out)) × (3 ≤ size .width) × (3 ≤ size .height) ⌝ }
-    ensures { λ _. ⌜ now (out .exit) ≡ painted size (suppressedAt size (now (magnitude .entry)) (now (gx .entry)) (now (gy .entry))) (now (out .entry)) ⌝ }
+    ensures { λ _. ⌜
+        now (out .exit)
+        ≡ painted size (suppressedAt size (now (magnitude .entry)) (now (gx .entry)) (now (gy .entry))) (now (out .entry))
+        ⌝ }
 {
     let width = size.width;
     clear_floats(out, width);
@@ -151,7 +154,10 @@ fn suppress_rows(magnitude: &[f32], gx: &[i16], gy: &[i16], size: Size, out: &mu
 // The whole picture: where a side is under 3 no pixel is an inner one.
 fn suppress(magnitude: &[f32], gx: &[i16], gy: &[i16], size: Size, out: &mut [f32])
     requires { ⌜ Pictures size (now magnitude) (now gx) (now gy) × (area size ≤ length (now out)) ⌝ }
-    ensures { λ _. ⌜ now (out .exit) ≡ painted size (suppressedAt size (now (magnitude .entry)) (now (gx .entry)) (now (gy .entry))) (now (out .entry)) ⌝ }
+    ensures { λ _. ⌜
+        now (out .exit)
+        ≡ painted size (suppressedAt size (now (magnitude .entry)) (now (gx .entry)) (now (gy .entry))) (now (out .entry))
+        ⌝ }
 {
     let n = size.width * size.height;
     if (size.width < 3) | (size.height < 3) {

@@ -5,7 +5,7 @@ use crate::lists;
 use crate::lists::LEFT;
 use crate::lists::LEFT_FLOAT;
 use crate::lists::LEFT_NUMBER;
-use rules::pattern::float;
+use rules::codes::float;
 ghost use Prim.Native.Nat.{_≤_};
 use kelontsira::run::kelontsira_canny;
 use kelontsira::walk::kelontsira_map;

@@ -11,7 +11,8 @@ array-share-prefix-text : tie.Need-array-share-prefix-text
 array-share-prefix-text c = let a = c .before .answer in let h = within _ _ _ (a .result) (a .ensures) in omega (arith, h, a .kept .1 .0)
 
 slice-aggregate-write-all : tie.Need-slice-aggregate-write-all
-slice-aggregate-write-all c = let a = c .before .before .answer in let h = within _ _ _ (a .result) (a .ensures) in sym (length-take-le (a .result) (a .last .1 .0) (omega (arith, h, a .kept .1 .0)))
+slice-aggregate-write-all c =
+    let a = c .before .before .answer in let h = within _ _ _ (a .result) (a .ensures) in sym (length-take-le (a .result) (a .last .1 .0) (omega (arith, h, a .kept .1 .0)))
 
 pub main-spec : {M : Type 1} → statement M
 main-spec =

@@ -12,7 +12,8 @@ use Rattle.hysteresis.proofs.map.Tie as tie
 
 -- past the test the request is accepted
 ok : (c : tie.Else1)
-    → let a = c .before .before .before .before .before .before .args in Mappable (sidesOf (a .walk)) (state (a .marks .now) (a .stack .now) (a .walk .pending)) (a .out .now)
+    → let a =
+    c .before .before .before .before .before .before .args in Mappable (sidesOf (a .walk)) (state (a .marks .now) (a .stack .now) (a .walk .pending)) (a .out .now)
 ok c = mappable _ _ _ (sym (c .before .of-map .ensures) ∙ c .if1 .left)
 
 returns : tie.Need-returns

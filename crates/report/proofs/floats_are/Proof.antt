@@ -16,7 +16,8 @@ abbrev μ-loop : tie.MeasureT-loop
 μ-loop buffer v same₀ i₀ same i = length buffer - i
 
 loop-again : tie.Need-loop-again Inv-loop μ-loop
-loop-again c = tested-more (c .before .before .before .loop-test .taken) (c .before .before .before .before .loop .inv) (rw (c .before .bits .ensures, c .bits2 .ensures))
+loop-again c =
+    tested-more (c .before .before .before .loop-test .taken) (c .before .before .before .before .loop .inv) (rw (c .before .bits .ensures, c .bits2 .ensures))
 
 pub floats-are-spec : {M : Type 1} → statement M
 floats-are-spec =

@@ -16,7 +16,8 @@ use Rattle.starting.proofs.start.Tie as tie
 
 -- past the test the start is accepted
 ok : (c : tie.Else1)
-    → let a = c .before .before .before .before .before .before .before .args in Startable (a .size) (a .thresholds) (a .magnitudes .now) (a .marks .now) (a .stack .now)
+    → let a =
+    c .before .before .before .before .before .before .before .args in Startable (a .size) (a .thresholds) (a .magnitudes .now) (a .marks .now) (a .stack .now)
 ok c = startable _ _ _ _ _ (sym (c .before .of-start .ensures) ∙ c .if1 .left)
 
 returns : tie.Need-returns
@@ -45,7 +46,8 @@ returns-2 c =
     let hi = atLeast (a .thresholds .high) (a .magnitudes .now) in
     let lo = atLeast (a .thresholds .low) (a .magnitudes .now) in
     let s = cleared (area (a .size)) 0 (a .stack .now) in
-    let p = both-passes hi lo (a .marks .now) s (area (a .size)) _ _ _ (ok e .marks-long) (m .mark-all .ensures) (rw (k .clear-places .ensures, n) at (r .stack-all .ensures)) in
+    let f = rw (k .clear-places .ensures, n) at (r .stack-all .ensures) in
+    let p = both-passes hi lo (a .marks .now) s (area (a .size)) _ _ _ (ok e .marks-long) (m .mark-all .ensures) f in
     rw (← e .before .of-start .ensures, e .if1 .left, ← p)
 
 pub start-spec : {M : Type 1} → statement M

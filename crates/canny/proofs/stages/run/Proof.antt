@@ -26,7 +26,8 @@ abbrev suppressed : tie.After-blurred2 → tie.After-blurred
 suppressed c = c .before .before .before .before .before .before .before .before .before .before .before
 
 abbrev begun : tie.After-blurred → tie.Start
-begun c = c .before .before .before .before .before .before .before .before .before .before .before .before .before .before .before .before .before .before .before .before .before .before
+begun c =
+    c .before .before .before .before .before .before .before .before .before .before .before .before .before .before .before .before .before .before .before .before .before .before
 
 -- ---- what acceptance grants
 

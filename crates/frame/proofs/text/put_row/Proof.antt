@@ -23,7 +23,8 @@ loop-again c =
     (search needs, filling-more (omega arith) (omega arith) (t .before .loop .inv .1) (rw (lt-ltb _ _ (t .loop-test .taken)) (c .character .ensures)))
 
 returns : tie.Need-returns Inv-loop μ-loop
-returns c = filling-end (filling-more {v = newline} (omega arith) (omega arith) (c .before .loop .inv .1) (rw (le-ltb _ _ (c .loop-test .left)))) (omega arith)
+returns c =
+    filling-end (filling-more {v = newline} (omega arith) (omega arith) (c .before .loop .inv .1) (rw (le-ltb _ _ (c .loop-test .left)))) (omega arith)
 
 pub put-row-spec : {M : Type 1} → statement M
 put-row-spec =

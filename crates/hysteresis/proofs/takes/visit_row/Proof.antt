@@ -16,7 +16,8 @@ fit-1 : (c : tie.After-visit-at) → let v = c .visit-at in Fit (from-1 c .args 
 fit-1 c = rw (c .visit-at .ensures) (fit-visit _ _ (from-1 c .pre .1))
 
 fit-2 : (c : tie.After-visit-at2)
-    → let v = c .visit-at2 in Fit (from-1 (c .before .before .before .before .before .before .before) .args .size) (state (v .last .0) (v .last .1 .0) (v .result))
+    → let v =
+    c .visit-at2 in Fit (from-1 (c .before .before .before .before .before .before .before) .args .size) (state (v .last .0) (v .last .1 .0) (v .result))
 fit-2 c = rw (c .visit-at2 .ensures) (fit-visit _ _ (fit-1 (c .before .before .before .before .before .before .before)))
 
 returns : tie.Need-returns

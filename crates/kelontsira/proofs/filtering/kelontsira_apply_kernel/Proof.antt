@@ -5,4 +5,5 @@ use Rattle.kelontsira.proofs.filtering.kelontsira_apply_kernel.Statemen
 use Rattle.kelontsira.proofs.filtering.kelontsira_apply_kernel.Tie as tie
 
 pub kelontsira-apply-kernel-spec : {M : Type 1} → statement M
-kelontsira-apply-kernel-spec = tie.close (tie.spec (λ c. search unknown) (λ c κs. search needs) (λ c κs. search needs) (λ c. search needs) (λ c. search known))
+kelontsira-apply-kernel-spec =
+    tie.close (tie.spec (λ c. search unknown) (λ c κs. search needs) (λ c κs. search needs) (λ c. search needs) (λ c. search known))

@@ -7,7 +7,8 @@ use Rattle.vectors_run.proofs.walks.slices.Statement.{statement}
 use Rattle.vectors_run.proofs.walks.slices.Tie as tie
 
 abbrev Inv-loop : tie.InvT-loop
-Inv-loop wide₀ tall₀ pending₀ marks₀ stack₀ accepted₀ takes₀ i₀ wide tall pending marks stack accepted takes i = (i ≤ 800) × ((length marks ≡ length marks₀) × (length stack ≡ length stack₀))
+Inv-loop wide₀ tall₀ pending₀ marks₀ stack₀ accepted₀ takes₀ i₀ wide tall pending marks stack accepted takes i =
+    (i ≤ 800) × ((length marks ≡ length marks₀) × (length stack ≡ length stack₀))
 
 abbrev μ-loop : tie.MeasureT-loop
 μ-loop wide₀ tall₀ pending₀ marks₀ stack₀ accepted₀ takes₀ i₀ wide tall pending marks stack accepted takes i = 800 - i

@@ -1,7 +1,7 @@
--- `border` meets its contract, test by test. Assumes nothing.
+-- `mode_of` meets its contract, test by test. Assumes nothing.
 use borrow.Author.Tests.{eq-eqb, ne-eqb}
-use Rattle.cases.proofs.border.Statement.{statement}
-use Rattle.cases.proofs.border.Tie as tie
+use Rattle.rules.proofs.codes.mode_of.Statement.{statement}
+use Rattle.rules.proofs.codes.mode_of.Tie as tie
 
 returns : tie.Need-returns
 returns c = rw (eq-eqb _ _ (c .if1 .taken))
@@ -12,5 +12,5 @@ returns-2 c = rw (ne-eqb _ _ (c .before .if1 .left), eq-eqb _ _ (c .if2 .taken))
 returns-3 : tie.Need-returns-3
 returns-3 c = rw (ne-eqb _ _ (c .before .if1 .left), ne-eqb _ _ (c .if2 .left))
 
-pub border-spec : {M : Type 1} → statement M
-border-spec = tie.close (tie.spec returns returns-2 returns-3)
+pub mode-of-spec : {M : Type 1} → statement M
+mode-of-spec = tie.close (tie.spec returns returns-2 returns-3)

@@ -6,8 +6,8 @@ use borrow.Author.Tests.{lt-ltb, le-ltb}
 use lib.Ieee.{Float, nan, inf, fin, binary32, div, ofBits, ofFields, isNan}
 use lib.Ieee.Bits.{nanBits-above, nanBits-is}
 use Rattle.rules.proofs.Bools.{is-true, clash}
-use Rattle.rules.proofs.pattern.float.Statement.{statement}
-use Rattle.rules.proofs.pattern.float.Tie as tie
+use Rattle.rules.proofs.codes.float.Statement.{statement}
+use Rattle.rules.proofs.codes.float.Tie as tie
 
 -- there is one NaN
 the-nan : (x : Float) → isNan x ≡ true → nan ≡ x
