@@ -12,6 +12,7 @@ pub mod Tallies
 pub mod Rows
 pub mod Runs
 pub mod Answers
+pub mod Demand
 pub mod Blurs
 pub mod Grid
 pub mod Border

@@ -1,15 +1,20 @@
 -- Roots: `nearRoot` is the whole number nearest a root and the only one; 01's nearest f32 is there and is the only one (01.Gradient.4);
 -- Sobel's byte is the least of its rule and the only one (01.Gradient.5). Assumes nothing.
-use mathlib.Core.Path.{_≡_, refl, ap, ap₂}
+use mathlib.Core.Path.{_≡_, refl, ap, ap₂, subst}
 use mathlib.Core.Bool.{Bool, true, false, cond}
 use Prim.Native.Nat.{ℕ, zero, suc, _+_, _-_, _*_, _/_, _^_, _<_, _≤_}
-use native.Mathlib.Nat.{mul-le-mul, mul-le-mul-left, mul-assoc, mul-left-comm, mul-add, add-mul, pow-suc, pow-succ', pow-le-pow-right, lt-irrefl}
+use native.Mathlib.Nat.{mul-one, mul-le-mul, mul-le-mul-left, mul-assoc, mul-left-comm, mul-add, add-mul, pow-suc, pow-succ', pow-le-pow-right, lt-irrefl}
 use native.Mathlib.Nat.{lt-of-not-le}
 use native.Mathlib.Omega.{arith}
 use lib.Dec.{leb, ltb}
+use lib.Ieee.Exact.{HasValue, odd-sign}
 use lib.Pow.{pow-add}
 use borrow.Author.Tests.{leb-true, leb-false, ltb-true, ltb-false}
 use Rattle.rules.specs.Root.{capS, scaled, NearestRoot, Near, wholeRoot, nearRoot, shiftOf, rootOf, upperEnd, leastFrom, sobelByte}
+
+-- a scaled m and k is m * 2^-k, without a sign
+pub scaled-is : (m k : ℕ) → HasValue (scaled m k) false m (2 ^ k)
+scaled-is m k = subst (λ (n : ℕ). HasValue (scaled m k) false n (2 ^ k)) (mul-one m) (odd-sign 24 false m 0 k)
 
 -- (2a)² and (a + 1)²
 dbl-sq : (a : ℕ) → 2 * a * (2 * a) ≡ 4 * (a * a)

@@ -2,7 +2,7 @@
 -- `slips`, inputs at which a definition that is wrong in one place gives another answer than 01's.
 use Prim.Native.Nat.{ℕ, zero, suc, _+_, _-_, _*_, _/_, _%_}
 use mathlib.Core.Path.{_≡_, refl}
-use mathlib.Core.Bool.{Bool, true, false, cond, _||_}
+use mathlib.Core.Bool.{Bool, false, cond, _||_}
 use mathlib.Core.List.{List, [], _∷_, _++_, map}
 use mathlib.Core.Option.{Option, some, none}
 use lib.Dec.{eqb}
@@ -10,7 +10,7 @@ use lib.ListN.{length, getD, set, drop}
 use lib.IntN.{ℤ, pos, negsuc}
 use lib.Ieee.{Float, nan, inf, fin, up, down, binary32, add, mul, ofInt, ofBits, toBits, odd, le, lt}
 use Rattle.rules.specs.Limits.{maxTaps, maxKernel, maxWindow}
-use Rattle.rules.specs.Picture.{area, inRowOrder, tabulate, filled, zeros, anyBelow, tally, bit}
+use Rattle.rules.specs.Picture.{area, inRowOrder, tabulate, zeros, anyBelow, tally, bit}
 use Rattle.rules.specs.Border.{sampleAt, modeOf}
 use Rattle.rules.specs.Sums.{plusZero, wholeF32, orderedSum, toByte}
 use Rattle.rules.specs.Filters.{convolvedAt, separableAt, kernelSum, kernelTerm}
@@ -19,9 +19,9 @@ use Rattle.rules.specs.Gradient.{gradientAt, gradientTerm, sumZ}
 use Rattle.rules.specs.Root.{magnitudeOf, rootOf, nearRoot, wholeRoot, sobelByte, leastFrom}
 use Rattle.rules.specs.Sector.{sectorOf, neighbours}
 use Rattle.rules.specs.Suppression.{suppressedAt}
-use Rattle.rules.specs.Walk.{State, state, atLeast, started, classed, class, sliced, takes, taken, pop, looks, visit, look, unusable}
+use Rattle.rules.specs.Walk.{state, atLeast, started, classed, class, sliced, takes, taken, pop, looks, visit, look, unusable}
 use Rattle.rules.specs.Refusals.{Rule, first, Scratch, sideRow, oneSideRow, countRow, weightRow, thresholdRow, orderRow}
-use Rattle.rules.specs.Refusals.{coordRows, kernelRows, separableRows, blurRows, boxRows, plainRows, medianRows, gradientRows, magnitudeRows}
+use Rattle.rules.specs.Refusals.{kernelRows, separableRows, blurRows, boxRows, plainRows, medianRows, gradientRows, magnitudeRows}
 use Rattle.rules.specs.Refusals.{suppressionRows, startRows, sliceRows, mapRows, runRows}
 use Rattle.rules.specs.Calls as Calls
 use Rattle.rules.specs.Calls.{resolveCoord, afterStart, applyKernel, applySeparableKernel, gaussianBlur, boxBlur, sharpen, median, sobelGradients}
@@ -700,7 +700,6 @@ frames-hold : Hold frames
 unfolding blurredOf componentOf magnitudesOf suppressedOf suppressedAt edgesOf endOf countOf runEdges canny separableAt kernelSum kernelTerm sampleAt orderedSum toByte add mul ofInt ofBits gradientAt gradientTerm sumZ magnitudeAt magnitudeOf rootOf nearRoot wholeRoot odd sectorOf neighbours afterStart started classed class sliced taken pop looks visit look le lt anyBelow tally tabulate breach frameTaps framePixels decimalBy decimal refusedText edgesText rowsText runText printout
 frames-hold = refl
 
-
 -- ---- THE LIST OF SLIPS, by subject
 
 unfoldable pub slips : List (List Example)
@@ -712,8 +711,7 @@ Every (l ∷ ls) = Hold l × Every ls
 
 pub slips-hold : Every slips
 unfolding slips
-slips-hold =
-    (
-      borders-hold,
-      (sums-hold, (filters-hold, (gradients-hold, (suppressed-hold, (walks-hold, (tests-hold, (tables-hold, (runs-hold, (frames-hold, tt))))))))),
-    )
+slips-hold = (
+  borders-hold,
+  (sums-hold, (filters-hold, (gradients-hold, (suppressed-hold, (walks-hold, (tests-hold, (tables-hold, (runs-hold, (frames-hold, tt))))))))),
+)

@@ -14,5 +14,6 @@ pub mod Refusals
 pub mod Calls
 pub mod Joined
 pub mod Run
+pub mod Demand
 pub mod Frame
 pub mod Examples
