@@ -6,10 +6,9 @@ use mathlib.Core.List.{List}
 use lib.Dec.{eqb}
 use lib.ListN.{getD, take, drop}
 use lib.Ieee.{Float}
-use borrow.Author.Tests.{ne-eqb}
-use Rattle.rules.specs.Picture.{area, tabulate, filled}
+use Rattle.rules.specs.Picture.{area, tabulate, filled, tally}
 use Rattle.rules.specs.Refusals.{Scratch, first, runRows, startRows}
-use Rattle.rules.specs.Joined.{Joined, joinedCount}
+use Rattle.rules.specs.Joined.{Joined, Tells}
 use Rattle.rules.specs.Run.{suppressedOf, runEdges, countOf, clearedScratch, canny, Roomy}
 use Rattle.rules.specs.declared.Size.{Size}
 use Rattle.rules.specs.declared.Thresholds.{Thresholds}
@@ -17,6 +16,7 @@ use Rattle.rules.specs.declared.Counted.{Counted}
 use Rattle.rules.proofs.Fill.{filled-at, take-filled, drop-filled}
 use Rattle.rules.proofs.Paths.{way-in}
 use Rattle.rules.proofs.Runs.{front, roomy}
+use Rattle.rules.proofs.Demand.{run-kept}
 use Rattle.canny.specs.Demand.{Demand-1, hi, lo}
 use Rattle.canny.proofs.Running.{startable}
 use Rattle.canny.proofs.Walking.{edge-on, edge-off, edges-count}
@@ -49,14 +49,6 @@ module _ (d : Size) (pixels : List ℕ) (taps : List Float) (t : Thresholds) whe
     abbrev n : ℕ
     n = first (runRows d pixels taps t s map)
 
-    number : after s map .0 .refusal ≡ n
-    unfolding canny
-    number = shared (λ (a : Counted × (List ℕ × Scratch)). a .0 .refusal) (eqb n 0) _ _ _ refl refl
-
-    is-refused : (after s map .0 .refusal ≡ 0 → ⊥) → after s map ≡ (record { refusal = n; count = 0 }, (map, s))
-    unfolding canny
-    is-refused p = rw (ne-eqb n 0 (λ z. p (number ∙ z)))
-
     past : drop (area d) (after s map .1 .0) ≡ drop (area d) map
     unfolding canny
     past =
@@ -69,7 +61,7 @@ module _ (d : Size) (pixels : List ℕ) (taps : List Float) (t : Thresholds) whe
 
     module _ (e : after s map .0 .refusal ≡ 0) where
       accepted : n ≡ 0
-      accepted = sym number ∙ e
+      accepted = sym (run-kept .number (d, pixels, taps, t) (map, s)) ∙ e
 
       is-accepted : after s map ≡ (record { refusal = 0; count = countOf d edges }, (filling map, clearedScratch d s))
       unfolding canny
@@ -87,11 +79,11 @@ module _ (d : Size) (pixels : List ℕ) (taps : List Float) (t : Thresholds) whe
       walks : first (startRows d t (suppressedOf d pixels taps) (s .marks) (s .stack)) ≡ 0
       walks = startable d pixels taps t s map accepted
 
-      count-is : after s map .0 .count ≡ joinedCount d (hi d pixels taps t) (lo d pixels taps t)
+      count-is : (J : ℕ → Bool) → Tells d (hi d pixels taps t) (lo d pixels taps t) J → after s map .0 .count ≡ tally J (area d)
       unfolding runEdges
-      count-is =
+      count-is J tells =
           ap (λ (a : Counted × (List ℕ × Scratch)). a .0 .count) is-accepted
-          ∙ edges-count d t (suppressedOf d pixels taps) (s .marks) (s .stack) walks
+          ∙ edges-count d t (suppressedOf d pixels taps) (s .marks) (s .stack) walks J tells
 
       on : (q : ℕ) → Joined d (hi d pixels taps t) (lo d pixels taps t) q → getD (after s map .1 .0) q 0 ≡ 255
       unfolding runEdges
@@ -104,9 +96,6 @@ module _ (d : Size) (pixels : List ℕ) (taps : List Float) (t : Thresholds) whe
   pub demand-1 : Demand-1 d pixels taps t
   demand-1 =
       record {
-        number = number;
-        refused =
-            λ s map p. let e = is-refused s map p in (ap (λ (a : Counted × (List ℕ × Scratch)). a .0 .count) e, ap (λ (a : Counted × (List ℕ × Scratch)). a .1) e);
         same-answer = λ s s' map map' r r'. answer s map r ∙ sym (answer s' map' r');
         same-map = λ s s' map map' e e'. first-of-map s map e ∙ sym (first-of-map s' map' e');
         kept-past = past;

@@ -9,13 +9,12 @@ use lib.Dec.{T, eqb}
 use lib.ListN.{length, getD, take, drop}
 use lib.Ieee.{Float}
 use borrow.Author.Tests.{eq-eqb, ne-eqb}
-use Rattle.rules.specs.Picture.{area, zeros, filled}
+use Rattle.rules.specs.Picture.{area, zeros, filled, tally}
 use Rattle.rules.specs.Walk.{State, has, sliced, takes, atLeast, edge, mapped}
 use Rattle.rules.specs.Refusals.{first, startRows, sliceRows, mapRows}
 use Rattle.rules.specs.Calls as Calls
 use Rattle.rules.specs.Calls.{walkOf, lent, afterStart, afterSlice, sliceTakes}
-use Rattle.rules.specs.Joined.{Joined, Tells, joined, joinedCount, afterAll, Held, heldAtStart}
-use Rattle.rules.specs.Joined.Call.{slice}
+use Rattle.rules.specs.Joined.{Joined, Tells}
 use Rattle.rules.specs.Run.{endOf, edgesOf, countOf}
 use Rattle.rules.specs.declared.Size.{Size}
 use Rattle.rules.specs.declared.Thresholds.{Thresholds}
@@ -26,7 +25,9 @@ use Rattle.rules.proofs.Bools.{true-is, is-true}
 use Rattle.rules.proofs.Fill.{length-tabulate, getD-tabulate, recount, first-part}
 use Rattle.rules.proofs.Rows.{off, rows}
 use Rattle.rules.proofs.Tallies.{tally-eq}
-use Rattle.rules.proofs.Paths.{way-in, joined-tells, joined-count, same-count}
+use Rattle.rules.proofs.Paths.{way-in, same-count}
+use Rattle.hysteresis.specs.Demand.{Held, Call, AllGoOn, afterAll, spent, Progress, heldAtStart}
+use Rattle.hysteresis.specs.Demand.Call.{slice}
 use Rattle.hysteresis.proofs.Demand.{demand-3, end-tells}
 use Rattle.hysteresis.proofs.Fits.{past-started, past-sliced}
 use Rattle.hysteresis.proofs.Numbers.{slice-fit}
@@ -61,9 +62,18 @@ module _ (d : Size) (t : Thresholds) (magnitudes : List Float) (marks stack : Li
   refusal-is : Calls.start d t magnitudes marks stack .0 .refusal ≡ 0
   refusal-is = ap (λ (a : Started × (List ℕ × List ℕ)). a .0 .refusal) start-is
 
+  -- demand 3 after slices
+  abbrev h : Held
+  h = heldAtStart d t magnitudes marks stack
+
+  after : (calls : List Call) → AllGoOn calls h
+      → let D = demand-3 d t magnitudes marks stack in
+      Progress d (atLeast (t .high) magnitudes) (atLeast (t .low) magnitudes) (tally (D .told .0) (area d)) (spent calls h) (afterAll calls h)
+  after calls g = let D = demand-3 d t magnitudes marks stack in D .progress refusal-is (D .told .0) (D .told .1) calls g
+
   slice-accepted : first (sliceRows d (area d + 1) begun) ≡ 0
-  unfolding Calls.slice afterAll heldAt
-  slice-accepted = rw held-begun at (demand-3 d t magnitudes marks stack refusal-is [] .next (area d + 1) (omega arith))
+  unfolding Calls.slice afterAll AllGoOn heldAt
+  slice-accepted = rw held-begun at (after [] tt .next (area d + 1) (omega arith))
 
   slice-is : Calls.slice (walkOf d (begun .pending)) (area d + 1) (begun .marks) (begun .stack)
       ≡ (record { refusal = 0; takes = takes d (area d + 1) begun; walk = walkOf d (ended .pending) }, lent ended)
@@ -81,9 +91,9 @@ module _ (d : Size) (t : Thresholds) (magnitudes : List Float) (marks stack : Li
 
   map-is : (out : List ℕ) → area d ≤ length out → Calls.map (walkOf d (ended .pending)) (ended .marks) (ended .stack) out
       ≡ (record { refusal = 0; walk = walkOf d (ended .pending) }, mapped (area d) (ended .marks) out)
-  unfolding Calls.map heldAt
+  unfolding Calls.map AllGoOn heldAt
   map-is out room =
-      let p = demand-3 d t magnitudes marks stack refusal-is (slice (area d + 1) ∷ []) in
+      let p = after (slice (area d + 1) ∷ []) (tt, tt) in
       let number : first (mapRows d ended out) ≡ 0 = (rw held-ended at (p .map-given)) (finished .0) out room in
       rw number
 
@@ -144,12 +154,11 @@ module _ (d : Size) (t : Thresholds) (magnitudes : List Float) (marks stack : Li
   is-edge true = refl
   is-edge false = refl
 
-  pub edges-count : countOf d (edgesOf d t magnitudes) ≡ joinedCount d hi lo
+  pub edges-count : (J : ℕ → Bool) → Tells d hi lo J → countOf d (edgesOf d t magnitudes) ≡ tally J (area d)
   unfolding countOf
-  edges-count =
+  edges-count J tells =
       tally-eq _ (has 3 (endOf d t magnitudes .marks)) (area d) (λ q l. ap (λ (v : ℕ). eqb v 255) (edge-at q l) ∙ is-edge (has 3 (endOf d t magnitudes .marks) q))
-      ∙ same-count d hi lo (has 3 (endOf d t magnitudes .marks)) (joined d hi lo) told (joined-tells d hi lo)
-      ∙ sym (joined-count d hi lo)
+      ∙ same-count d hi lo (has 3 (endOf d t magnitudes .marks)) J told tells
 
 -- ---- the three calls in turn
 

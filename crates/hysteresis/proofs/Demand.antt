@@ -17,18 +17,21 @@ use Rattle.rules.specs.Walk.{State, state, mark, has, count, last, pop, look, v
 use Rattle.rules.specs.Refusals.{first, badThreshold, startRows, sliceRows, mapRows}
 use Rattle.rules.specs.Calls as Calls
 use Rattle.rules.specs.Calls.{walkOf, afterStart, afterSlice, sliceTakes}
-use Rattle.rules.specs.Joined.{Joined, Way, Tells, joined, joinedCount, Held, Call, spentBy, afterAll, spent, Progress, heldAtStart, Demand-3}
+use Rattle.rules.specs.Joined.{Joined, Way, Tells, joined, joinedCount}
 use Rattle.rules.specs.Joined.Way.{here, on}
-use Rattle.rules.specs.Joined.Call.{slice, map}
 use Rattle.rules.specs.declared.Size.{Size}
 use Rattle.rules.specs.declared.Thresholds.{Thresholds}
+use Rattle.rules.specs.declared.Walk.{Walk}
 use Rattle.rules.specs.declared.Started.{Started}
 use Rattle.rules.proofs.Bools.{true-is, is-true, neither}
 use Rattle.rules.proofs.Fill.{filled-at}
 use Rattle.rules.proofs.Rows.{Sides, rows}
 use Rattle.rules.proofs.Tallies.{tally-all, tally-le, tally-less, tally-zero}
-use Rattle.rules.proofs.Paths.{way-in, joined-tells, joined-count}
+use Rattle.rules.proofs.Paths.{way-in, joined-tells, joined-count, same-count}
+use Rattle.rules.proofs.Demand.{start-kept}
 use Rattle.starting.proofs.Numbers.{Startable, startable}
+use Rattle.hysteresis.specs.Demand.{Held, Call, GoesOn, AllGoOn, spentBy, afterAll, spent, Progress, heldAtStart, Demand-3}
+use Rattle.hysteresis.specs.Demand.Call.{slice, map, start}
 use Rattle.hysteresis.proofs.Numbers.{usable-of}
 use Rattle.hysteresis.proofs.Floats.{lower}
 use Rattle.hysteresis.proofs.Invariant.{room, last-in, last-two, last-joined}
@@ -170,15 +173,24 @@ module _ (d : Size) (hi lo : ℕ → Bool) where
     inv : Inv d hi lo now
     finished : done now ≡ min N (k + spent calls (heldOf d s))
 
-  calls-keep : (calls : List Call) (s : State) (k : ℕ) → Inv d hi lo s → done s ≡ min N k → After calls s k
-  unfolding afterAll spent Calls.slice Calls.map
-  calls-keep [] s k h e = record { now = s; is = refl; inv = h; finished = omega arith }
-  calls-keep (slice b ∷ cs) s k h e =
+  -- a refused start leaves marks and stack
+  left : (c : Size) (t : Thresholds) (magnitudes : List Float) (s : State) → GoesOn (start c t magnitudes) (heldOf d s)
+      → Calls.start c t magnitudes (s .marks) (s .stack) .1 ≡ Calls.lent s
+  left c t magnitudes s p = ap (λ (a : Walk × (List ℕ × List ℕ)). a .1) (start-kept .refused (c, t, magnitudes) (s .marks, s .stack) p)
+
+  calls-keep : (calls : List Call) (s : State) (k : ℕ) → Inv d hi lo s → done s ≡ min N k → AllGoOn calls (heldOf d s) → After calls s k
+  unfolding afterAll spent AllGoOn Calls.slice Calls.map
+  calls-keep [] s k h e g = record { now = s; is = refl; inv = h; finished = omega arith }
+  calls-keep (slice b ∷ cs) s k h e g =
       let a = call-keeps b s k h e in
-      let r = calls-keep cs (afterSlice d b s) (k + spentBy (slice b) (heldOf d s)) (a .inv) (a .finished) in
+      let r = calls-keep cs (afterSlice d b s) (k + spentBy (slice b) (heldOf d s)) (a .inv) (a .finished) (g .1) in
       record { now = r .now; is = r .is; inv = r .inv; finished = r .finished ∙ ap (min N) (add-assoc k _ _) }
-  calls-keep (map out ∷ cs) s k h e =
-      let r = calls-keep cs s k h e in record { now = r .now; is = r .is; inv = r .inv; finished = omega (arith, r .finished) }
+  calls-keep (map out ∷ cs) s k h e g =
+      let r = calls-keep cs s k h e (g .1) in record { now = r .now; is = r .is; inv = r .inv; finished = omega (arith, r .finished) }
+  calls-keep (start c t magnitudes ∷ cs) s k h e g =
+      let l = left c t magnitudes s (g .0) in
+      let r = calls-keep cs s k h e (rw l at (g .1)) in
+      record { now = r .now; is = rw l (r .is); inv = r .inv; finished = rw l (omega (arith, r .finished)) }
 
 -- ---- an accepted start
 
@@ -215,11 +227,11 @@ module _ (d : Size) (t : Thresholds) (magnitudes : List Float) (marks stack : Li
   above q z =
       is-true (lower (t .low) (t .high) (getD magnitudes q nan) (is-finite (t .low) (ok .low)) (is-finite (t .high) (ok .high)) (ok .ordered) (true-is _ z))
 
-  after : (calls : List Call) → After d hi lo calls begun 0
+  after : (calls : List Call) → AllGoOn calls (heldAtStart d t magnitudes marks stack) → After d hi lo calls begun 0
   unfolding afterStart
-  after calls =
+  after calls g =
       let h = start-holds d hi lo above marks stack (ok .marks-long) (ok .stack-long) in
-      calls-keep d hi lo calls begun 0 (h .0) (omega (arith, h .1))
+      calls-keep d hi lo calls begun 0 (h .0) (omega (arith, h .1)) (rw held-is at g)
 
   -- a slice with the budget width * height + 1 ends the walk, and then mark 3 tells exactly the joined pixels, whatever the buffers held
   pub end-tells : let s = sliced d (area d + 1) begun in (s .pending ≡ 0) × Tells d hi lo (has 3 (s .marks))
@@ -236,20 +248,25 @@ module _ (d : Size) (t : Thresholds) (magnitudes : List Float) (marks stack : Li
       )
 
   -- ON EVERY STATE THAT A START AND CALLS AFTER IT LEFT, A SLICE'S TAKES ARE ITS NEW MARKS 3
-  pub takes-finish : (calls : List Call) (b : ℕ)
+  pub takes-finish : (calls : List Call) (b : ℕ) → AllGoOn calls (heldAtStart d t magnitudes marks stack)
       → let h = afterAll calls (heldAtStart d t magnitudes marks stack) in
       let a = Calls.slice (h .walk) b (h .marks) (h .stack) in
       count 3 (a .1 .0) (area d) ≡ count 3 (h .marks) (area d) + a .0 .takes
   unfolding Calls.slice
-  takes-finish calls b =
-      let a = after calls in
+  takes-finish calls b g =
+      let a = after calls g in
       rw (held-is, a .is) (call-keeps d hi lo b (a .now) _ (a .inv) (a .finished) .made-is)
 
 -- DEMAND 3 holds of every start
 pub demand-3 : (d : Size) (t : Thresholds) (magnitudes : List Float) (marks stack : List ℕ) → Demand-3 d t magnitudes marks stack
-demand-3 d t magnitudes marks stack e calls =
-    let a = after d t magnitudes marks stack e calls in
-    rw (held-is d t magnitudes marks stack e, a .is) (progress d _ _ (a .inv) (ok d t magnitudes marks stack e .sides) _ (omega (arith, a .finished)))
+demand-3 d t magnitudes marks stack =
+    record {
+      told = (joined d _ _, joined-tells d _ _);
+      progress = λ e J tells calls g.
+          let a = after d t magnitudes marks stack e calls g in
+          rw (held-is d t magnitudes marks stack e, a .is, same-count d _ _ J _ tells (joined-tells d _ _), ← joined-count d _ _)
+          (progress d _ _ (a .inv) (ok d t magnitudes marks stack e .sides) _ (omega (arith, a .finished)));
+    }
 
 -- ---- the takes on every state, forged ones included
 

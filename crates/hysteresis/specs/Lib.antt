@@ -1,3 +1,4 @@
--- What the private functions of this crate require. What the public ones promise is in rules/specs/Calls.
+-- What the private functions of this crate require, and DEMAND 3. What the public ones promise is in rules/specs/Calls.
 pub mod Fit
 pub mod Around
+pub mod Demand

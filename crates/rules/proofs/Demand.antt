@@ -237,7 +237,7 @@ module _ (d : Size) (pixels : List ℕ) (taps : List Float) (t : Thresholds) (s 
   unfolding canny countOf tally
   run-uncounted e = both (λ (a : Counted × (List ℕ × Scratch)). a .0 .count) (eqb n 0) _ _ (rw e) refl
 
-run-kept : Kept runCall
+pub run-kept : Kept runCall
 unfolding canny
 run-kept =
     record {
