@@ -8,7 +8,8 @@
  *   - no pointer is NULL, not even one of length 0, and none of the pointers to single numbers is;
  *   - nothing that a call may write overlaps anything else that the same call is lent;
  *   - no one else reads or writes a lent buffer until the call returns;
- *   - the processor rounds to nearest and does not flush small floats to zero (the state in which C programs start).
+ *   - the processor rounds to nearest and does not flush small floats to zero (the state in which C programs start);
+ *   - the machine's stack has room for the call: docs/FIRMWARE.md says how much each takes. No test of the library can see it run out.
  *
  * A picture is width * height bytes in row order: pixel (x, y) is entry y * width + x. Lengths count entries, not bytes. An input has
  * exactly the length asked for; outputs and scratch have at least that, and entries past width * height are never written. A picture
@@ -134,8 +135,8 @@ uint8_t kelontsira_non_maximum_suppression(const float *magnitude, size_t magnit
  * each, all kept by the caller from the start to the map and changed by no one else. */
 
 /* Classes each magnitude: at or above `high` it is pending, mark 2; else at or above `low` weak, mark 1; else mark 0, a NaN too. Writes the
- * state's three numbers, and the first width * height marks and stack entries: the pending pixels' indexes in row order, then 0.
- * Refusals: 1, 2, 5, 6, 7 (marks or stack). */
+ * state's three numbers, and the first width * height marks and stack entries: the pending pixels' indexes in row order, then 0. A refused
+ * start leaves all of these, the numbers too: a walk that was under way in them goes on. Refusals: 1, 2, 5, 6, 7 (marks or stack). */
 uint8_t kelontsira_start(const float *magnitudes, size_t magnitudes_length, size_t width, size_t height, float low, float high,
                          uint8_t *marks, size_t marks_length, uint32_t *stack, size_t stack_length, size_t *walk_width,
                          size_t *walk_height, size_t *walk_pending);
@@ -147,7 +148,8 @@ uint8_t kelontsira_start(const float *magnitudes, size_t magnitudes_length, size
 uint8_t kelontsira_slice(size_t *walk_width, size_t *walk_height, size_t *walk_pending, size_t budget, uint8_t *marks,
                          size_t marks_length, uint32_t *stack, size_t stack_length, size_t *takes);
 
-/* The map of a walk that has ended: 255 at the pixels joined to a strong one, else 0. Refusals: 1, 7 (marks, stack or out), 9, 10. */
+/* The map of a walk that has ended: 255 where the mark is 3, else 0. After a start and slices until nothing is pending those are the pixels
+ * joined to a strong one; of marks that a caller made up it is only what it says: 255 where they are 3. Refusals: 1, 7 (marks, stack or out), 9, 10. */
 uint8_t kelontsira_map(size_t walk_width, size_t walk_height, size_t walk_pending, const uint8_t *marks, size_t marks_length,
                        const uint32_t *stack, size_t stack_length, uint8_t *out, size_t out_length);
 
