@@ -80,46 +80,20 @@ stateRow d s = rule 9 (unusable d s)
 abbrev pub pendingRow : State → Rule
 pendingRow s = rule 10 (not (eqb (s .pending) 0))
 
--- ---- the calls, each with its rows in ascending order
+-- ---- the calls, each with its rows on one line, in the order in which they are tested: an edit that exchanges two is refused by Examples
 
 abbrev pub coordRows : ℕ → List Rule
 coordRows side = oneSideRow side ∷ []
 
 abbrev pub kernelRows : Size → Kernel → List ℕ → List Float → List ℕ → List Rule
-kernelRows d k pixels weights out =
-    sideRow d
-    ∷ inputRow d pixels
-    ∷ countRow maxKernel (k .width)
-    ∷ countRow maxKernel (k .height)
-    ∷ matchRow (k .width * k .height) weights
-    ∷ weightRow weights
-    ∷ roomRow d out
-    ∷ []
+kernelRows d k pixels weights out = sideRow d ∷ inputRow d pixels ∷ countRow maxKernel (k .width) ∷ countRow maxKernel (k .height) ∷ matchRow (k .width * k .height) weights ∷ weightRow weights ∷ roomRow d out ∷ []
 
 abbrev pub separableRows : Size → SeparableKernel → List ℕ → List Float → List Float → List Float → List ℕ → List Rule
-separableRows d k pixels horizontal vertical work out =
-    sideRow d
-    ∷ inputRow d pixels
-    ∷ countRow maxTaps (k .horizontal)
-    ∷ countRow maxTaps (k .vertical)
-    ∷ matchRow (k .horizontal) horizontal
-    ∷ matchRow (k .vertical) vertical
-    ∷ weightRow horizontal
-    ∷ weightRow vertical
-    ∷ roomRow d work
-    ∷ roomRow d out
-    ∷ []
+separableRows d k pixels horizontal vertical work out = sideRow d ∷ inputRow d pixels ∷ countRow maxTaps (k .horizontal) ∷ countRow maxTaps (k .vertical) ∷ matchRow (k .horizontal) horizontal ∷ matchRow (k .vertical) vertical ∷ weightRow horizontal ∷ weightRow vertical ∷ roomRow d work ∷ roomRow d out ∷ []
 
 -- a blur's taps are counted by themselves
 abbrev pub blurRows : Size → List ℕ → List Float → List Float → List ℕ → List Rule
-blurRows d pixels taps work out =
-    sideRow d
-    ∷ inputRow d pixels
-    ∷ countRow maxTaps (length taps)
-    ∷ weightRow taps
-    ∷ roomRow d work
-    ∷ roomRow d out
-    ∷ []
+blurRows d pixels taps work out = sideRow d ∷ inputRow d pixels ∷ countRow maxTaps (length taps) ∷ weightRow taps ∷ roomRow d work ∷ roomRow d out ∷ []
 
 abbrev pub boxRows : Size → List ℕ → List Float → List ℕ → List Rule
 boxRows d pixels work out = sideRow d ∷ inputRow d pixels ∷ roomRow d work ∷ roomRow d out ∷ []
@@ -129,8 +103,7 @@ abbrev pub plainRows : Size → List ℕ → List ℕ → List Rule
 plainRows d pixels out = sideRow d ∷ inputRow d pixels ∷ roomRow d out ∷ []
 
 abbrev pub medianRows : Size → ℕ → List ℕ → List ℕ → List Rule
-medianRows d window pixels out =
-    sideRow d ∷ inputRow d pixels ∷ countRow maxWindow window ∷ roomRow d out ∷ []
+medianRows d window pixels out = sideRow d ∷ inputRow d pixels ∷ countRow maxWindow window ∷ roomRow d out ∷ []
 
 abbrev pub gradientRows : Size → List ℕ → List ℤ → List ℤ → List Rule
 gradientRows d pixels gx gy = sideRow d ∷ inputRow d pixels ∷ roomRow d gx ∷ roomRow d gy ∷ []
@@ -139,38 +112,17 @@ abbrev pub magnitudeRows : Size → List ℤ → List ℤ → List Float → Lis
 magnitudeRows d gx gy magnitude = sideRow d ∷ inputRow d gx ∷ inputRow d gy ∷ roomRow d magnitude ∷ []
 
 abbrev pub suppressionRows : Size → List Float → List ℤ → List ℤ → List Float → List Rule
-suppressionRows d magnitude gx gy out =
-    sideRow d ∷ inputRow d magnitude ∷ inputRow d gx ∷ inputRow d gy ∷ roomRow d out ∷ []
+suppressionRows d magnitude gx gy out = sideRow d ∷ inputRow d magnitude ∷ inputRow d gx ∷ inputRow d gy ∷ roomRow d out ∷ []
 
 abbrev pub startRows : Size → Thresholds → List Float → List ℕ → List ℕ → List Rule
-startRows d t magnitudes marks stack =
-    sideRow d
-    ∷ inputRow d magnitudes
-    ∷ thresholdRow t
-    ∷ orderRow t
-    ∷ roomRow d marks
-    ∷ roomRow d stack
-    ∷ []
+startRows d t magnitudes marks stack = sideRow d ∷ inputRow d magnitudes ∷ thresholdRow t ∷ orderRow t ∷ roomRow d marks ∷ roomRow d stack ∷ []
 
 -- the sides are the state's own; marks and stack are work buffers
 abbrev pub sliceRows : Size → ℕ → State → List Rule
-sliceRows d budget s =
-    sideRow d
-    ∷ roomRow d (s .marks)
-    ∷ roomRow d (s .stack)
-    ∷ budgetRow budget
-    ∷ stateRow d s
-    ∷ []
+sliceRows d budget s = sideRow d ∷ roomRow d (s .marks) ∷ roomRow d (s .stack) ∷ budgetRow budget ∷ stateRow d s ∷ []
 
 abbrev pub mapRows : Size → State → List ℕ → List Rule
-mapRows d s out =
-    sideRow d
-    ∷ roomRow d (s .marks)
-    ∷ roomRow d (s .stack)
-    ∷ roomRow d out
-    ∷ stateRow d s
-    ∷ pendingRow s
-    ∷ []
+mapRows d s out = sideRow d ∷ roomRow d (s .marks) ∷ roomRow d (s .stack) ∷ roomRow d out ∷ stateRow d s ∷ pendingRow s ∷ []
 
 -- the scratch of a whole run: the horizontal pass and later the suppressed magnitudes; the magnitudes; both components; the blurred
 -- bytes; the walk's marks and stack
@@ -183,20 +135,9 @@ pub record Scratch : Type 0 where
   pub marks : List ℕ
   pub stack : List ℕ
 
+-- room for the scratch and the map
+abbrev pub scratchRows : Size → Scratch → List ℕ → List Rule
+scratchRows d s out = roomRow d (s .work) ∷ roomRow d (s .magnitude) ∷ roomRow d (s .gx) ∷ roomRow d (s .gy) ∷ roomRow d (s .blurred) ∷ roomRow d (s .marks) ∷ roomRow d (s .stack) ∷ roomRow d out ∷ []
+
 abbrev pub runRows : Size → List ℕ → List Float → Thresholds → Scratch → List ℕ → List Rule
-runRows d pixels taps t s out =
-    sideRow d
-    ∷ inputRow d pixels
-    ∷ countRow maxTaps (length taps)
-    ∷ weightRow taps
-    ∷ thresholdRow t
-    ∷ orderRow t
-    ∷ roomRow d (s .work)
-    ∷ roomRow d (s .magnitude)
-    ∷ roomRow d (s .gx)
-    ∷ roomRow d (s .gy)
-    ∷ roomRow d (s .blurred)
-    ∷ roomRow d (s .marks)
-    ∷ roomRow d (s .stack)
-    ∷ roomRow d out
-    ∷ []
+runRows d pixels taps t s out = sideRow d ∷ inputRow d pixels ∷ countRow maxTaps (length taps) ∷ weightRow taps ∷ thresholdRow t ∷ orderRow t ∷ scratchRows d s out
