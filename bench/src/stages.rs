@@ -33,11 +33,11 @@ const EMBOSS: [f32; 9] = [-2.0, -1.0, 0.0, -1.0, 1.0, 1.0, 0.0, 1.0, 2.0];
 
 type Done = Result<(), String>;
 
-pub fn rows() -> Result<Vec<Row>, String> {
+pub fn rows(wanted: &str) -> Result<Vec<Row>, String> {
     let mut rows = Vec::new();
     for name in NAMES {
         let frame = Frame::named(name, 640, 480);
-        let mut desk = Desk::new(&frame);
+        let mut desk = Desk::new(&frame, wanted);
         blurs(&mut desk)?;
         kernels(&mut desk)?;
         windows(&mut desk)?;

@@ -4,11 +4,14 @@ use crate::pairs::Row;
 
 /// Milliseconds of both sides, their ratio and its spread.
 pub fn timed(title: &str, rows: &[Row]) -> String {
+    if rows.is_empty() {
+        return String::new();
+    }
     let mut text = format!("\n### {title}\n\n");
     text += "| what | frame | vendor, ms | ours, ms | ratio | spread | rounds |\n";
     text += "|---|---|---:|---:|---:|---:|---:|\n";
     for row in rows {
-        let (vendor, ours) = (1e3 * row.times.vendor(), 1e3 * row.times.ours());
+        let (vendor, ours) = (1e3 * row.times.other(), 1e3 * row.times.ours());
         let (low, high) = row.times.spread();
         text += &format!(
             "| {} | {} | {vendor:.2} | {ours:.2} | {:.2} | {low:.2} to {high:.2} | {} |\n",
@@ -23,11 +26,14 @@ pub fn timed(title: &str, rows: &[Row]) -> String {
 
 /// The same by size, with nanoseconds a pixel.
 pub fn grown(title: &str, rows: &[Row]) -> String {
+    if rows.is_empty() {
+        return String::new();
+    }
     let mut text = format!("\n### {title}\n\n");
     text += "| frame | size | vendor, ms | vendor, ns a pixel | ours, ms | ours, ns a pixel | ratio | spread | rounds |\n";
     text += "|---|---|---:|---:|---:|---:|---:|---:|---:|\n";
     for row in rows {
-        let (vendor, ours) = (row.times.vendor(), row.times.ours());
+        let (vendor, ours) = (row.times.other(), row.times.ours());
         let (low, high) = row.times.spread();
         let area = (row.sides.0 * row.sides.1) as f64;
         text += &format!(
@@ -54,6 +60,29 @@ pub fn slower(tables: &[&[Row]]) -> String {
     text += if slow.is_empty() { ".\n" } else { ":\n\n" };
     for row in slow {
         text += &format!("- {}, {}: {:.2}\n", row.what, row.frame, row.times.ratio());
+    }
+    text
+}
+
+/// Two archives: milliseconds of both, new over old, and its spread.
+pub fn compared(title: &str, rows: &[Row]) -> String {
+    if rows.is_empty() {
+        return String::new();
+    }
+    let mut text = format!("\n### {title}\n\n");
+    text += "| what | frame | old, ms | new, ms | new / old | spread | rounds |\n";
+    text += "|---|---|---:|---:|---:|---:|---:|\n";
+    for row in rows {
+        let (low, high) = row.times.spread();
+        text += &format!(
+            "| {} | {} | {:.3} | {:.3} | {:.3} | {low:.3} to {high:.3} | {} |\n",
+            row.what,
+            row.frame,
+            1e3 * row.times.other(),
+            1e3 * row.times.ours(),
+            row.times.ratio_in_rounds(),
+            row.times.rounds()
+        );
     }
     text
 }

@@ -3,6 +3,8 @@
 use std::ffi::c_int;
 use std::hint::black_box;
 
+use crate::beside::{choose, Archive};
+
 /// The processor time of the calling thread, as Linux numbers its clocks.
 const THREAD_TIME: c_int = 3;
 
@@ -17,9 +19,9 @@ extern "C" {
     fn clock_gettime(clock: c_int, moment: *mut Moment) -> c_int;
 }
 
-/// Seconds of each round, of the vendor's span and of ours.
+/// Seconds of each round, of the other side's span (the vendor's, or an old archive's) and of ours.
 pub struct Times {
-    vendor: Vec<f64>,
+    other: Vec<f64>,
     ours: Vec<f64>,
 }
 
@@ -29,15 +31,15 @@ impl Times {
     }
 
     /// The rounds of both.
-    pub fn and(mut self, other: Times) -> Times {
-        self.vendor.extend(other.vendor);
-        self.ours.extend(other.ours);
+    pub fn and(mut self, more: Times) -> Times {
+        self.other.extend(more.other);
+        self.ours.extend(more.ours);
         self
     }
 
-    /// The median of the vendor's spans.
-    pub fn vendor(&self) -> f64 {
-        median(&self.vendor)
+    /// The median of the other side's spans.
+    pub fn other(&self) -> f64 {
+        median(&self.other)
     }
 
     /// The median of our spans.
@@ -45,25 +47,53 @@ impl Times {
         median(&self.ours)
     }
 
-    /// Our median over the vendor's: below 1, ours is quicker.
+    /// Our median over the other's: below 1, ours is quicker.
     pub fn ratio(&self) -> f64 {
-        self.ours() / self.vendor()
+        self.ours() / self.other()
+    }
+
+    /// The median of the ratios of single rounds. Two archives differ by less than the machine drifts from one round to the next, and the
+    /// spans of one round drift together.
+    pub fn ratio_in_rounds(&self) -> f64 {
+        median(&self.ratios())
     }
 
     /// The 10th and the 90th percentile of the ratios of single rounds.
     pub fn spread(&self) -> (f64, f64) {
-        let ratios: Vec<f64> = self.ours.iter().zip(&self.vendor).map(|(ours, vendor)| ours / vendor).collect();
+        let ratios = self.ratios();
         (quantile(&ratios, 0.1), quantile(&ratios, 0.9))
+    }
+
+    fn ratios(&self) -> Vec<f64> {
+        self.ours.iter().zip(&self.other).map(|(ours, other)| ours / other).collect()
     }
 }
 
 /// Vendor, ours, vendor, ours and so on, each as often as there are rounds.
 pub fn alternate<V, O>(rounds: usize, mut vendor: impl FnMut() -> V, mut ours: impl FnMut() -> O) -> Times {
-    let mut times = Times { vendor: Vec::with_capacity(rounds), ours: Vec::with_capacity(rounds) };
+    let mut times = Times { other: Vec::with_capacity(rounds), ours: Vec::with_capacity(rounds) };
     for _ in 0..rounds {
-        times.vendor.push(span(&mut vendor));
+        times.other.push(span(&mut vendor));
         times.ours.push(span(&mut ours));
     }
+    times
+}
+
+/// One piece of work by the old archive and by the new one, in each round once; which is first changes from round to round.
+pub fn by_turns<O>(rounds: usize, mut work: impl FnMut() -> O) -> Times {
+    let mut by = |archive: Archive| {
+        choose(archive);
+        span(&mut work)
+    };
+    let mut times = Times { other: Vec::with_capacity(rounds), ours: Vec::with_capacity(rounds) };
+    for round in 0..rounds {
+        let order = if round % 2 == 0 { [Archive::Old, Archive::New] } else { [Archive::New, Archive::Old] };
+        for archive in order {
+            let seconds = by(archive);
+            if archive == Archive::Old { times.other.push(seconds) } else { times.ours.push(seconds) }
+        }
+    }
+    choose(Archive::New);
     times
 }
 

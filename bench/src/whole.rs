@@ -18,11 +18,11 @@ const ROUNDS: usize = 21;
 /// How often the growth goes through its sizes.
 const PASSES: usize = 7;
 
-pub fn rows() -> Result<Vec<Row>, String> {
+pub fn rows(wanted: &str) -> Result<Vec<Row>, String> {
     let mut rows = Vec::new();
     for name in NAMES {
         let frame = Frame::named(name, 640, 480);
-        let mut desk = Desk::new(&frame);
+        let mut desk = Desk::new(&frame, wanted);
         for (count, sigma) in vendor::SIGMAS {
             for thresholds in THRESHOLDS {
                 let what = format!("whole run, {count} taps, {} and {}", thresholds.0, thresholds.1);
@@ -35,11 +35,11 @@ pub fn rows() -> Result<Vec<Row>, String> {
 }
 
 /// The sizes come in turn, a few rounds of each at a time, so that a busy moment does not fall on one size only.
-pub fn growth() -> Result<Vec<Row>, String> {
+pub fn growth(wanted: &str) -> Result<Vec<Row>, String> {
     let mut rows = Vec::new();
     for name in NAMES {
         let frames = SIZES.map(|(width, height)| Frame::named(name, width, height));
-        let mut desks = frames.each_ref().map(Desk::new);
+        let mut desks = frames.each_ref().map(|frame| Desk::new(frame, wanted));
         for _ in 0..PASSES {
             for desk in &mut desks {
                 let (width, height) = desk.frame.sides();
@@ -48,7 +48,7 @@ pub fn growth() -> Result<Vec<Row>, String> {
                 run(desk, &format!("whole run, {width} by {height}"), rounds, vendor::SIGMAS[1], THRESHOLDS[1])?;
             }
         }
-        rows.extend(desks.into_iter().map(Desk::joined));
+        rows.extend(desks.into_iter().filter_map(Desk::joined));
     }
     Ok(rows)
 }

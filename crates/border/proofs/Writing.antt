@@ -89,7 +89,7 @@ pub writing-end : {A : Type 0} {a e i : ℕ} {g : ℕ → A} {o l : List A} → 
 writing-end {A} {a} {e} {i} p h = let n : i ≡ e = omega (arith, p .within) in rw n at (p .is)
 
 -- all of the first n
-write-all : {A : Type 0} (n : ℕ) (g : ℕ → A) (o : List A) → written 0 n g o ≡ filled n g o
+pub write-all : {A : Type 0} (n : ℕ) (g : ℕ → A) (o : List A) → written 0 n g o ≡ filled n g o
 unfolding written
 write-all n g o =
     let z : n - 0 ≡ n = omega arith in

@@ -1,14 +1,18 @@
--- Sobel's byte by halving: the end before the upper half of the bytes that it may be tells which half it is in. Assumes nothing.
-use mathlib.Core.Path.{_≡_, refl, ap}
+-- Sobel's byte by halving: the end before the upper half of the bytes that it may be tells which half it is in. The table of ends, and
+-- S in 16 bits. Assumes nothing.
+use mathlib.Core.Path.{_≡_, refl, sym, ap, _∙_}
 use mathlib.Core.Bool.{Bool, true, false, cond}
-use Prim.Native.Nat.{ℕ, _+_, _-_, _*_, _<_, _≤_}
-use native.Mathlib.Nat.{add-mul, mul-le-mul, lt-irrefl}
+use mathlib.Core.List.{List}
+use Prim.Native.Nat.{ℕ, _+_, _-_, _<_, _≤_}
+use native.Mathlib.Nat.{lt-irrefl}
 use native.Mathlib.Omega.{arith}
 use lib.Dec.{ltb}
+use lib.ListN.{length, getD}
 use borrow.Author.Tests.{ltb-true, ltb-false}
 use Rattle.rules.specs.Root.{upperEnd, sobelByte}
-use Rattle.rules.proofs.Roots.{ends-rise, byte-is}
-use Rattle.nine.specs.Halving.{Among, Halving}
+use Rattle.rules.proofs.Fill.{length-tabulate, getD-tabulate}
+use Rattle.rules.proofs.Roots.{ends-rise, byte-is, byte-over}
+use Rattle.nine.specs.Halving.{upperEnds, Ends, Among, Halving, held}
 
 -- it is one of the 256 bytes
 pub at-first : (s : ℕ) → Among s 0 256
@@ -29,20 +33,25 @@ module _ {s n b : ℕ} (h : Halving s n b) where
       let f : sobelByte s ≤ n + b - 1 = byte-is s .least (n + b - 1) (omega arith) u in
       record { bytes = omega arith; from = omega arith; below = omega arith }
 
-  -- the end before the upper half is a product that fits 16 bits
-  pub product-fits : (n + b) * (n + b - 1) < 65536
-  product-fits =
-      let l : n + b ≤ 255 = omega arith in
-      let k : n + b - 1 ≤ 254 = omega arith in
-      omega (arith, mul-le-mul l k)
+-- ---- the table
 
-  -- and what a test of it gains
-  pub gained : {r : ℕ} → r ≡ cond (ltb ((n + b) * (n + b - 1)) s) b 0 → Among s (n + r) b
-  gained {r} = go _ refl
-    where
-      e : (n + b) * (n + b - 1) ≡ upperEnd (n + b - 1)
-      e = let q : n + b ≡ n + b - 1 + 1 = omega (arith, h .some) in omega (arith, ap (λ (m : ℕ). m * (n + b - 1)) q, add-mul (n + b - 1) 1 (n + b - 1))
+pub ends-are : {t : List ℕ} → t ≡ upperEnds → Ends t
+unfolding upperEnds
+ends-are e =
+    record { count = ap length e ∙ length-tabulate 255 _; each = λ n h. ap (λ (l : List ℕ). getD l n 0) e ∙ getD-tabulate 255 _ 0 n h }
 
-      go : (t : Bool) → ltb ((n + b) * (n + b - 1)) s ≡ t → r ≡ cond t b 0 → Among s (n + r) b
-      go true q g = let u = upper (omega (arith, e, ltb-true ((n + b) * (n + b - 1)) s q)) in omega arith
-      go false q g = let u = lower (omega (arith, e, ltb-false ((n + b) * (n + b - 1)) s q)) in omega arith
+-- ---- S in 16 bits
+
+module _ (s : ℕ) where
+  go : (b : Bool) → ltb s 64771 ≡ b → (cond b s 64771 ≤ 64771) × (sobelByte (cond b s 64771) ≡ sobelByte s)
+  go true e = (omega (arith, ltb-true s 64771 e), refl)
+  go false e = (omega arith, sym (byte-over 64771 (omega arith)) ∙ byte-over s (omega (arith, ltb-false s 64771 e)))
+
+  pub held-most : held s ≤ 64771
+  unfolding held
+  held-most = go _ refl .0
+
+  -- has the same byte
+  pub held-byte : sobelByte (held s) ≡ sobelByte s
+  unfolding held
+  held-byte = go _ refl .1

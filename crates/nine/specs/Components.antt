@@ -1,11 +1,10 @@
--- A component of nine bytes, and Sobel's byte of them.
+-- A component of nine bytes, and S of them.
 use Prim.Native.Nat.{ℕ, _≤_}
 use mathlib.Core.Path.{_≡_}
 use mathlib.Core.List.{List}
 use lib.ListN.{length, getD}
 use lib.IntN.{ℤ, pos, natAbs, _*ℤ_}
 use Rattle.rules.specs.Gradient.{gxTable, gyTable, sumZ, energy}
-use Rattle.rules.specs.Root.{sobelByte}
 
 -- a table of nine small weights
 pub record Weights (table : List ℤ) : Type 0 where
@@ -16,6 +15,6 @@ pub record Weights (table : List ℤ) : Type 0 where
 unfoldable pub component : List ℤ → List ℕ → ℤ
 component table nine = sumZ (λ j. getD table j (pos 0) *ℤ pos (getD nine j 0)) 9
 
--- Sobel's byte of nine bytes
-abbrev pub nineByte : List ℕ → ℕ
-nineByte nine = sobelByte (energy (component gxTable nine) (component gyTable nine))
+-- S of nine bytes
+abbrev pub nineEnergy : List ℕ → ℕ
+nineEnergy nine = energy (component gxTable nine) (component gyTable nine)

@@ -1,11 +1,22 @@
 -- Sobel's byte by halving: the ends' table, and the bytes that a number may still have.
 use Prim.Native.Nat.{ℕ, _+_, _<_, _≤_}
 use mathlib.Core.Path.{_≡_}
+use mathlib.Core.Bool.{cond}
 use mathlib.Core.List.{List}
+use lib.Dec.{ltb}
 use lib.ListN.{length, getD}
+use Rattle.rules.specs.Picture.{tabulate}
 use Rattle.rules.specs.Root.{upperEnd, sobelByte}
 
 -- the 255 upper ends
+unfoldable pub upperEnds : List ℕ
+upperEnds = tabulate 255 upperEnd
+
+-- S in 16 bits: over the last end, 64,770, every number has byte 255
+unfoldable pub held : ℕ → ℕ
+held s = cond (ltb s 64771) s 64771
+
+-- a table that has them
 pub record Ends (ends : List ℕ) : Type 0 where
   pub count : length ends ≡ 255
   pub each : (n : ℕ) → n < 255 → getD ends n 0 ≡ upperEnd n

@@ -1,12 +1,10 @@
 // What Sobel makes of the nine bytes about a pixel: two components, S of them, and the byte of any S, its root to the nearest whole number.
 ghost use mathlib.Core.Path.{_≡_};
-ghost use mathlib.Core.Bool.{cond};
-ghost use lib.Dec.{ltb};
 ghost use lib.ListN.{length};
 ghost use Rattle.rules.specs.Gradient.{gxTable, gyTable, energy};
 ghost use Rattle.rules.specs.Root.{sobelByte};
-ghost use Rattle.nine.specs.Components.{Weights, component, nineByte};
-ghost use Rattle.nine.specs.Halving.{Ends, Among, Halving};
+ghost use Rattle.nine.specs.Components.{Weights, component, nineEnergy};
+ghost use Rattle.nine.specs.Halving.{upperEnds, Ends, Among, Halving, held};
 
 // ---- Of the nine bytes about a pixel, in row order.
 
@@ -51,24 +49,28 @@ fn energy_of(nine: &[u8]) -> u32
     (x * x + y * y) as u32
 }
 
-pub fn byte_of(nine: &[u8; 9]) -> u8
-    ensures { λ r. ⌜ r ≡ nineByte (now (nine .entry)) ⌝ }
+// S in 16 bits, of which eight fit where four of 32 do. Over the last end every number has byte 255, so one will do for all.
+fn held(s: u32) -> u16
+    ensures { λ r. ⌜ r ≡ held s ⌝ }
 {
-    root_byte(energy_of(nine))
+    if s < 64771 {
+        return s as u16;
+    }
+    64771
 }
 
-// By the table: the pixels at the picture's sides are few.
-pub fn outer_byte(nine: &[u8; 9]) -> u8
-    ensures { λ r. ⌜ r ≡ nineByte (now (nine .entry)) ⌝ }
+// S of the nine bytes, so held.
+pub fn sum_of(nine: &[u8; 9]) -> u16
+    ensures { λ r. ⌜ r ≡ held (nineEnergy (now (nine .entry))) ⌝ }
 {
-    sobel_byte(energy_of(nine))
+    held(energy_of(nine))
 }
 
 // ---- The byte of any S, by the table of upper ends: the 256 that it may be, halved eight times.
 
-// The table, to lend.
-fn upper_ends() -> [u32; 255]
-    ensures { λ r. ⌜ Ends r ⌝ }
+// The table, to lend: the compiler puts it on the stack of whoever calls this.
+pub fn upper_ends() -> [u32; 255]
+    ensures { λ r. ⌜ r ≡ upperEnds ⌝ }
 {
     ENDS
 }
@@ -106,53 +108,6 @@ pub fn sobel_byte(s: u32) -> u8
 {
     let ends = upper_ends();
     byte_by(&ends, s)
-}
-
-// ---- The same byte for a loop over pixels, with each end worked out: a loop that looks nothing up and does not branch takes several pixels
-// at once, and needs no table on the stack.
-
-// b if e is below s, else 0.
-fn gain(e: u16, s: u16, b: u16) -> u16
-    ensures { λ r. ⌜ r ≡ cond (ltb e s) b 0 ⌝ }
-{
-    if e < s {
-        return b;
-    }
-    0
-}
-
-// As half_by: the end before m is m * (m - 1).
-fn half(s: u16, n: u16, b: u16) -> u16
-    requires { ⌜ Halving s n b ⌝ }
-    ensures { λ r. ⌜ Among s r b ⌝ }
-{
-    let m = n + b;
-    n + gain(m * (m - 1), s, b)
-}
-
-// S in 16 bits, of which eight fit where four of 32 do. Over the last end every number has byte 255, so one will do for all.
-fn capped(s: u32) -> u16
-    ensures { λ r. ⌜ sobelByte r ≡ sobelByte s ⌝ }
-{
-    if s < 65535 {
-        return s as u16;
-    }
-    65535
-}
-
-fn root_byte(s: u32) -> u8
-    ensures { λ r. ⌜ r ≡ sobelByte s ⌝ }
-{
-    let t = capped(s);
-    let mut n = half(t, 0, 128);
-    n = half(t, n, 64);
-    n = half(t, n, 32);
-    n = half(t, n, 16);
-    n = half(t, n, 8);
-    n = half(t, n, 4);
-    n = half(t, n, 2);
-    n = half(t, n, 1);
-    n as u8
 }
 
 // The 255 upper ends n² + n: S gets byte n from above the end before it up to its own (01.Gradient.5, 01.Gradient.6).

@@ -1,5 +1,5 @@
 -- The nine bytes about a pixel are the definition's samples, through the border and inside it; a pixel's window by its index. Assumes nothing.
-use mathlib.Core.Path.{_≡_, sym, ap, ap₂, _∙_}
+use mathlib.Core.Path.{_≡_, refl, sym, ap, ap₂, _∙_}
 use mathlib.Core.List.{List, [], _∷_}
 use Prim.Native.Nat.{ℕ, _+_, _-_, _*_, _/_, _%_, _<_, _≤_}
 use native.Mathlib.Nat.{add-mul, mul-le-mul-right}
@@ -17,8 +17,11 @@ use Rattle.rules.proofs.Border.{diff, sample-inside}
 use Rattle.border.specs.Lent.{written}
 use Rattle.refusals.specs.Rows.{Picture}
 use Rattle.border.proofs.Writing.{Row, rewrite-as, write-on}
-use Rattle.nine.specs.Components.{component, nineByte}
+use Rattle.nine.specs.Components.{component, nineEnergy}
+use Rattle.nine.specs.Halving.{held}
+use Rattle.nine.proofs.Halving.{held-byte}
 use Rattle.sobel.specs.Nine.{Pixel, aboutAt, nineAbout, nineInside, Inner}
+use Rattle.sobel.specs.Bytes.{sumOf, sumInside}
 
 -- the pixel with index i
 pub pixel-at : (d : Size) (pixels : List ℕ) (i : ℕ) → Picture d pixels → i < area d → Pixel d pixels (i % d .width) (i / d .width)
@@ -30,10 +33,10 @@ module _ (d : Size) (mode : BorderMode) (pixels : List ℕ) (x y : ℕ) {nine : 
   unfolding component nineAbout gradientAt gradientTerm tabulate sumZ
   about table = ap (component table) e
 
-  -- and Sobel's byte of them
-  pub byte-about : nineByte nine ≡ sobelAt d mode pixels x y
+  -- and Sobel's byte of their S
+  pub byte-about : sobelByte (held (nineEnergy nine)) ≡ sobelAt d mode pixels x y
   unfolding sobelAt
-  byte-about = ap sobelByte (ap₂ energy (about gxTable) (about gyTable))
+  byte-about = held-byte _ ∙ ap sobelByte (ap₂ energy (about gxTable) (about gyTable))
 
 -- ---- inside, each of the nine is an entry of the picture
 
@@ -73,6 +76,14 @@ inside-is d mode pixels y n i r h k =
     inside d mode pixels x y i (omega arith) (omega arith) (r .above s) (r .below s) e
     ∙ sym (ap₂ (nineAbout d mode pixels) (ap (λ (k : ℕ). k % d .width) e ∙ column-of y l) (ap (λ (k : ℕ). k / d .width) e ∙ row-of y l))
 
+-- S in column x of them
+pub sum-inside : (d : Size) (mode : BorderMode) (pixels : List ℕ) (y n x : ℕ) → Inner d y n → 1 ≤ x → x < 1 + n
+    → sumInside pixels (d .width) (y * d .width) x ≡ sumOf d mode pixels y x
+sum-inside d mode pixels y n x r h k =
+    let s : 0 < n = omega arith in
+    let c = r .columns s in
+    ap (λ l. held (nineEnergy l)) (inside d mode pixels x y _ (omega arith) (omega arith) (r .above s) (r .below s) refl)
+
 -- ---- rows
 
 -- where the n inner pixels of row y lie
@@ -92,11 +103,11 @@ inner-row {d} {y} r i h =
       below = omega (arith, row-in (y + 1) (d .width) (d .height) (i .below h), add-mul y 1 (d .width));
     }
 
--- a row of w in three runs: its first pixel, the n inner ones by another account, its last
-pub three-runs : {A : Type 0} {f g : ℕ → A} (a n w : ℕ) (o : List A) {l1 l2 l3 : List A} → n + 2 ≡ w → a + w ≤ length o → length l1 ≡ length o
+-- a row from a to e in three runs: its first pixel, the n inner ones by another account, its last
+pub three-runs : {A : Type 0} {f g : ℕ → A} (a n e : ℕ) (o : List A) {l1 l2 l3 : List A} → a + n + 2 ≡ e → e ≤ length o
     → ((i : ℕ) → a + 1 ≤ i → i < a + 1 + n → g i ≡ f i)
-    → l1 ≡ written a (a + 1) f o → l2 ≡ written (a + 1) (a + 1 + n) g l1 → l3 ≡ written (a + 1 + n) (a + w) f l2 → l3 ≡ written a (a + w) f o
-three-runs {A} {f} {g} a n w o {l1} {l2} {l3} c h k q p1 p2 p3 =
+    → l1 ≡ written a (a + 1) f o → l2 ≡ written (a + 1) (a + 1 + n) g l1 → l3 ≡ written (a + 1 + n) e f l2 → l3 ≡ written a e f o
+three-runs {A} {f} {g} a n e o {l1} {l2} {l3} c h q p1 p2 p3 =
     let m = rewrite-as (a + 1) g l1 f (a + 1 + n) l2 (omega arith) p2 q in
     let t = write-on a f o (a + 1) (a + 1 + n) l1 l2 (omega arith) (omega arith) (omega arith) p1 m in
-    write-on a f o (a + 1 + n) (a + w) l2 l3 (omega arith) (omega arith) h t p3
+    write-on a f o (a + 1 + n) e l2 l3 (omega arith) (omega arith) h t p3

@@ -1,2 +1,3 @@
 -- What this crate's private functions require of their arguments, and what they hold on the way.
 pub mod Nine
+pub mod Bytes

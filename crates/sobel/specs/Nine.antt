@@ -11,7 +11,7 @@ use Rattle.rules.specs.Calls.{sobelAt}
 use Rattle.rules.specs.declared.Size.{Size}
 use Rattle.rules.specs.declared.BorderMode.{BorderMode}
 use Rattle.refusals.specs.Rows.{Picture}
-use Rattle.nine.specs.Components.{component, nineByte}
+use Rattle.nine.specs.Components.{component}
 
 -- a pixel of a lent picture
 pub record Pixel (d : Size) (pixels : List ℕ) (x y : ℕ) : Type 0 where
@@ -66,7 +66,3 @@ byteOf d mode pixels = byPixel d (sobelAt d mode pixels)
 -- a component of the nine entries about index i
 abbrev pub insideOf : List ℤ → List ℕ → ℕ → ℕ → ℤ
 insideOf table pixels w i = component table (nineInside pixels w i)
-
--- Sobel's byte of them
-abbrev pub byteInside : List ℕ → ℕ → ℕ → ℕ
-byteInside pixels w i = nineByte (nineInside pixels w i)

@@ -1,25 +1,29 @@
 // Sobel's gradient and Sobel's own bytes. Each public call refuses by number or runs by document 01's rules.
 use border::coord::place;
 use border::picture::read;
-use nine::byte_of;
 use nine::gx_of;
 use nine::gy_of;
-use nine::outer_byte;
 pub use nine::sobel_byte;
+use nine::sum_of;
+use nine::upper_ends;
 use refusals::filter::of_picture;
 use rules::ACCEPTED;
 use rules::BorderMode;
 use rules::REFUSED_ROOM;
 use rules::Size;
 ghost use mathlib.Core.Path.{_≡_};
+ghost use mathlib.Core.Bool.{true};
 ghost use Prim.Native.Nat.{_+_, _≤_, _<_};
 ghost use lib.ListN.{length};
 ghost use Rattle.rules.specs.Picture.{area, filled};
 ghost use Rattle.rules.specs.Gradient.{gxTable, gyTable};
-ghost use Rattle.rules.specs.Calls.{sobelGradients, sobel};
+ghost use Rattle.rules.specs.Root.{upperEnd, sobelByte};
+ghost use Rattle.rules.specs.Calls.{sobelAt, sobelGradients, sobel};
 ghost use Rattle.border.specs.Lent.{written, writtenRow};
 ghost use Rattle.refusals.specs.Rows.{Picture};
-ghost use Rattle.sobel.specs.Nine.{Run, Pixel, aboutAt, nineAbout, nineInside, Inside, Inner, insideOf, gxOf, gyOf, byteOf, byteInside};
+ghost use Rattle.sobel.specs.Nine.{Run, Pixel, aboutAt, nineAbout, nineInside, Inside, Inner, insideOf, gxOf, gyOf, byteOf};
+ghost use Rattle.nine.specs.Halving.{Ends};
+ghost use Rattle.sobel.specs.Bytes.{Columns, sumOf, sumInside, placeOf, endOf, byteBy, Small, Tested, AllBelow};
 
 // ---- The nine bytes about a pixel, in row order.
 
@@ -202,63 +206,221 @@ pub fn sobel_gradients(
     ACCEPTED
 }
 
-// ---- Sobel's bytes, a run of pixels at a time.
+// ---- Sobel's bytes, a row at a time: S of each pixel, a guess of its root, and the table of ends to test the guess by.
 
-// From index a to index e, through the border.
-fn outer_bytes(pixels: &[u8], size: Size, border: BorderMode, a: usize, e: usize, out: &mut [u8])
-    requires { ⌜ Picture size (now pixels) × Run size a e (now out) ⌝ }
-    ensures { λ _. ⌜ now (out .exit) ≡ written a e (byteOf size border (now (pixels .entry))) (now (out .entry)) ⌝ }
+// S of the pixels from column a to column e of row y, through the border.
+fn outer_sums(
+    pixels: &[u8],
+    size: Size,
+    border: BorderMode,
+    y: usize,
+    a: usize,
+    e: usize,
+    sums: &mut [u16],
+)
+    requires { ⌜ Columns size (now pixels) y a e × (e ≤ length (now sums)) ⌝ }
+    ensures { λ _. ⌜ now (sums .exit) ≡ written a e (sumOf size border (now (pixels .entry)) y) (now (sums .entry)) ⌝ }
 {
-    let mut i = a;
-    while i < e {
-        let nine = nine_about(pixels, size, border, i % size.width, i / size.width);
-        out[i] = outer_byte(&nine);
-        i += 1;
+    let mut x = a;
+    while x < e {
+        let nine = nine_about(pixels, size, border, x, y);
+        sums[x] = sum_of(&nine);
+        x += 1;
     }
 }
 
-// From index a to index e, where each pixel has its nine bytes in the picture.
-fn inner_bytes(pixels: &[u8], width: usize, a: usize, e: usize, out: &mut [u8])
-    requires { ⌜ Inside (now pixels) width a e × (e ≤ length (now out)) ⌝ }
-    ensures { λ _. ⌜ now (out .exit) ≡ written a e (byteInside (now (pixels .entry)) width) (now (out .entry)) ⌝ }
+// S of the n inner pixels, columns 1 to n, of the row that begins at index `start`.
+fn inner_sums(pixels: &[u8], width: usize, start: usize, n: usize, sums: &mut [u16])
+    requires { ⌜ Inside (now pixels) width (start + 1) (start + 1 + n) × (1 + n ≤ length (now sums)) ⌝ }
+    ensures { λ _. ⌜ now (sums .exit) ≡ written 1 (1 + n) (sumInside (now (pixels .entry)) width start) (now (sums .entry)) ⌝ }
 {
-    let mut i = a;
-    while i < e {
-        let nine = nine_inside(pixels, width, i);
-        out[i] = byte_of(&nine);
-        i += 1;
+    let end = 1 + n;
+    let mut x = 1;
+    while x < end {
+        let nine = nine_inside(pixels, width, start + x);
+        sums[x] = sum_of(&nine);
+        x += 1;
     }
 }
 
-fn byte_row(pixels: &[u8], size: Size, border: BorderMode, y: usize, out: &mut [u8])
-    requires { ⌜
-        Picture size (now pixels)
-        × (y < size .height)
-        × (area size ≤ length (now out))
-        ⌝ }
-    ensures { λ _. ⌜ now (out .exit) ≡ writtenRow size y (byteOf size border (now (pixels .entry))) (now (out .entry)) ⌝ }
+// S of every pixel of row y.
+fn sum_row(pixels: &[u8], size: Size, border: BorderMode, y: usize, sums: &mut [u16])
+    requires { ⌜ Picture size (now pixels) × (y < size .height) × (size .width ≤ length (now sums)) ⌝ }
+    ensures { λ _. ⌜ now (sums .exit) ≡ written 0 (size .width) (sumOf size border (now (pixels .entry)) y) (now (sums .entry)) ⌝ }
 {
-    let a = y * size.width;
-    let e = a + size.width;
+    let width = size.width;
     let n = inner_count(size, y);
     if n == 0 {
-        outer_bytes(pixels, size, border, a, e, out);
+        outer_sums(pixels, size, border, y, 0, width, sums);
         return;
     }
-    let first = a + 1;
-    let last = first + n;
-    outer_bytes(pixels, size, border, a, first, out);
-    inner_bytes(pixels, size.width, first, last, out);
-    outer_bytes(pixels, size, border, last, e, out);
+    let last = 1 + n;
+    outer_sums(pixels, size, border, y, 0, 1, sums);
+    inner_sums(pixels, width, y * width, n, sums);
+    outer_sums(pixels, size, border, y, last, width, sums);
 }
 
+// A float within 5 in 100 of the root of f, from its bits, as the magnitudes have it.
+fn first_guess(f: f32) -> f32 {
+    if f > 0.0 {
+        return f32::from_bits(f32::to_bits(f) / 2 % 1073741824 + 532487669);
+    }
+    1.0
+}
+
+// The lowest byte of a float's bits.
+fn low_byte(z: f32) -> u8 {
+    if z > 0.0 {
+        return (f32::to_bits(z) % 256) as u8;
+    }
+    0
+}
+
+// Two of Heron's steps; 2^23 more, and the lowest bits are the nearest whole number. Tried on every s, this is the byte itself; no proof
+// leans on it.
+fn guess(s: u16) -> u8 {
+    let f = s as f32;
+    let a = first_guess(f);
+    let b = (a + f / a) * 0.5;
+    low_byte((b + f / b) * 0.5 + 8388608.0)
+}
+
+// A guess for each byte.
+fn guesses(sums: &[u16], out: &mut [u8])
+    requires { ⌜ length (now out) ≤ length (now sums) ⌝ }
+{
+    let n = out.len();
+    let mut i = 0;
+    while i < n {
+        out[i] = guess(sums[i]);
+        i += 1;
+    }
+}
+
+// Where the table has the end to test a byte by: its own; for 255, which has none, the last.
+fn place_of(byte: u8) -> usize
+    ensures { λ r. ⌜ (r ≡ placeOf byte) × (r ≤ 254) ⌝ }
+{
+    if byte < 255 {
+        return byte as usize;
+    }
+    254
+}
+
+// The end of each byte, from the table. It stands in a loop of its own, since it does one pixel at a time, where the others do several.
+fn ends_of(ends: &[u32], bytes: &[u8], found: &mut [u16])
+    requires { ⌜ Ends (now ends) × (length (now bytes) ≤ length (now found)) ⌝ }
+    ensures { λ _. ⌜ now (found .exit) ≡ filled (length (now (bytes .entry))) (endOf (now (bytes .entry))) (now (found .entry)) ⌝ }
+{
+    let n = bytes.len();
+    let mut i = 0;
+    while i < n {
+        found[i] = ends[place_of(bytes[i])] as u16;
+        i += 1;
+    }
+}
+
+// Whether a byte is that of s, by its end: s is at most that, and above the end before it, which is 2 * byte less.
+fn is_byte(end: u16, s: u16, byte: u8) -> bool
+    requires { ⌜ s ≤ 64771 ⌝ }
+    ensures { λ r. ⌜ (r ≡ true → end ≡ upperEnd (placeOf byte) → byte ≡ sobelByte s) ⌝ }
+{
+    let n = byte as u16;
+    let within = (s <= end) & ((end < s + 2 * n) | (n == 0));
+    ((n < 255) & within) | ((n == 255) & (end < s))
+}
+
+// Whether all are. It looks at every pixel, so that it looks at several at once.
+fn are_bytes(sums: &[u16], ends: &[u16], bytes: &[u8]) -> bool
+    requires { ⌜ Tested (now sums) (now ends) (now bytes) ⌝ }
+    ensures { λ r. ⌜ (r ≡ true → AllBelow (length (now (bytes .entry))) (byteBy (now (sums .entry))) (now (bytes .entry))) ⌝ }
+{
+    let n = bytes.len();
+    let mut all = true;
+    let mut i = 0;
+    while i < n {
+        all = all & is_byte(ends[i], sums[i], bytes[i]);
+        i += 1;
+    }
+    all
+}
+
+// Each byte by itself.
+fn one_by_one(sums: &[u16], out: &mut [u8])
+    requires { ⌜ length (now out) ≤ length (now sums) ⌝ }
+    ensures { λ _. ⌜ now (out .exit) ≡ filled (length (now (out .entry))) (byteBy (now (sums .entry))) (now (out .entry)) ⌝ }
+{
+    let n = out.len();
+    let mut i = 0;
+    while i < n {
+        out[i] = sobel_byte(sums[i] as u32);
+        i += 1;
+    }
+}
+
+// The bytes of a row of S: the guesses, if all are right.
+fn bytes_of(ends: &[u32], sums: &[u16], found: &mut [u16], out: &mut [u8])
+    requires { ⌜ Ends (now ends) × Small (now sums) (length (now out)) × (length (now out) ≤ length (now found)) ⌝ }
+    ensures { λ _. ⌜ now (out .exit) ≡ filled (length (now (out .entry))) (byteBy (now (sums .entry))) (now (out .entry)) ⌝ }
+{
+    guesses(sums, out);
+    ends_of(ends, out, found);
+    if are_bytes(sums, found, out) {
+        return;
+    }
+    one_by_one(sums, out);
+}
+
+// Row y, with room for its sums and their ends.
+fn byte_row(
+    ends: &[u32; 255],
+    pixels: &[u8],
+    size: Size,
+    border: BorderMode,
+    y: usize,
+    sums: &mut [u16; 640],
+    found: &mut [u16; 640],
+    out: &mut [u8],
+)
+    requires { ⌜
+        Ends (now ends)
+        × Picture size (now pixels)
+        × (y < size .height)
+        × (length (now out) ≡ size .width)
+        ⌝ }
+    ensures { λ _. ⌜
+        now (out .exit)
+        ≡ filled (size .width) (λ x. sobelAt size border (now (pixels .entry)) x y) (now (out .entry))
+        ⌝ }
+{
+    sum_row(pixels, size, border, y, sums);
+    bytes_of(ends, sums, found, out);
+}
+
+// The table of ends is put on the stack here, once for a picture.
 fn byte_rows(pixels: &[u8], size: Size, border: BorderMode, out: &mut [u8])
     requires { ⌜ Picture size (now pixels) × (area size ≤ length (now out)) ⌝ }
     ensures { λ _. ⌜ now (out .exit) ≡ filled (area size) (byteOf size border (now (pixels .entry))) (now (out .entry)) ⌝ }
 {
+    let ends = upper_ends();
+    let mut sums = [0u16; 640];
+    let mut found = [0u16; 640];
+    let width = size.width;
     let mut y = 0;
+    let mut start = 0;
     while y < size.height {
-        byte_row(pixels, size, border, y, out);
+        let end = start + width;
+        byte_row(
+            &ends,
+            pixels,
+            size,
+            border,
+            y,
+            &mut sums,
+            &mut found,
+            &mut out[start..end],
+        );
+        start = end;
         y += 1;
     }
 }

@@ -1,14 +1,13 @@
--- Neighbours: the two of 01's table lie opposite, a step before a pixel and a step after it, so that suppression may go along a row.
--- Assumes nothing.
+-- Neighbours: the two of 01's table lie opposite, so that the offset of the first tells where both are read. Assumes nothing.
 use mathlib.Core.Path.{_≡_, refl, ap, _∙_}
 use mathlib.Core.Bool.{Bool, true, false, cond, and-true}
 use mathlib.Core.List.{List}
 use Prim.Native.Nat.{ℕ, _+_, _-_, _*_, _<_, _≤_}
-use native.Mathlib.Nat.{add-mul, add-zero, mul-zero, mul-one}
+use native.Mathlib.Nat.{add-mul}
 use native.Mathlib.Omega.{arith}
 use lib.Dec.{ltb, eqb}
 use lib.ListN.{length, getD}
-use lib.IntN.{ℤ, pos, negsuc, natAbs, _+ℤ_, _*ℤ_}
+use lib.IntN.{ℤ, pos, negsuc, natAbs, _+ℤ_}
 use lib.Ieee.{Float, nan}
 use mir.Syntax.{w16}
 use mir.Val.{SFits, toZ, ofZ}
@@ -26,7 +25,7 @@ use Rattle.rules.proofs.Grid.{row-in, row-of, column-of}
 use Rattle.rules.proofs.Border.{diff}
 use Rattle.suppression.proofs.Sectors.{is-false}
 use Rattle.suppression.specs.Lent.{Pictures, InnerRow}
-use Rattle.suppression.specs.Steps.{stepOf, atStep, beforeAt, afterAt, keptAt, rowAt}
+use Rattle.suppression.specs.Beside.{atOffset, firstAt, secondAt, keptAt, rowAt}
 
 -- one back from n
 back : (n : ℕ) → 0 < n → natAbs (pos n +ℤ negsuc 0) ≡ n - 1
@@ -55,44 +54,35 @@ module _ (P : Offset × Offset → Type 0)
 abbrev place : ℕ → ℕ → ℕ → Offset → ℕ
 place w x y o = natAbs (pos y +ℤ o .dy) * w + natAbs (pos x +ℤ o .dx)
 
-abbrev stepBy : ℕ → Offset → ℕ
-stepBy w o = natAbs (pos w *ℤ o .dy +ℤ o .dx)
+-- both neighbours are read where the first one's offset says
+record Opposite (m : List Float) (w x y : ℕ) (n : Offset × Offset) : Type 0 where
+  first : getD m (place w x y (n .0)) nan ≡ firstAt w m (y * w + x) (n .0)
+  second : getD m (place w x y (n .1)) nan ≡ secondAt w m (y * w + x) (n .0)
 
-record Opposite (w x y : ℕ) (n : Offset × Offset) : Type 0 where
-  before : place w x y (n .0) ≡ y * w + x - stepBy w (n .1)
-  after : place w x y (n .1) ≡ y * w + x + stepBy w (n .1)
+read-at : (m : List Float) {a b : ℕ} → a ≡ b → getD m a nan ≡ getD m b nan
+read-at m = ap (λ (n : ℕ). getD m n nan)
 
-opposite : (w x y : ℕ) → 0 < w → 0 < x → 0 < y → (sector : ℕ) → Opposite w x y (neighbours sector)
-opposite w x y l h k =
+opposite : (m : List Float) (w x y : ℕ) → 0 < w → 0 < x → 0 < y → (sector : ℕ) → Opposite m w x y (neighbours sector)
+unfolding atOffset
+opposite m w x y l h k =
     let up = row-before y w k in
     let down = add-mul y 1 w in
-    rows (Opposite w x y)
-    (record { before = simp (back x h, add-zero, mul-zero) (omega arith); after = simp (add-zero, mul-zero) (omega arith) })
-    (record { before = simp (back y k, mul-one, back w l) (omega arith); after = simp (back x h, mul-one, back w l) (omega arith) })
-    (record { before = simp (back y k, add-zero, mul-one) (omega arith); after = simp (add-zero, mul-one) (omega arith) })
-    (record { before = simp (back x h, back y k, mul-one) (omega arith); after = simp mul-one (omega arith) })
+    rows (Opposite m w x y)
+    (record { first = read-at m (simp (back x h) (omega arith)); second = read-at m (omega arith) })
+    (record { first = read-at m (simp (back y k) (omega arith)); second = read-at m (simp (back x h) (omega arith)) })
+    (record { first = read-at m (simp (back y k) (omega arith)); second = read-at m (omega arith) })
+    (record { first = read-at m (simp (back x h, back y k) (omega arith)); second = read-at m (omega arith) })
 
--- ---- the four that the code chooses from: at any width they stand one entry away, or in the row beside
-
-chosen : (m : List Float) (w : ℕ) → 0 < w → (at : ℕ → ℕ) {a b c d : ℕ} → a ≡ at 1 → b ≡ at (w - 1) → c ≡ at w → d ≡ at (w + 1)
-    → (sector : ℕ) → atStep (stepOf sector 3) (getD m a nan) (getD m b nan) (getD m c nan) (getD m d nan) ≡ getD m (at (stepOf sector w)) nan
-unfolding atStep
-chosen m w l at {a} {b} {c} {d} p q r s =
-    rows (λ n. atStep (stepBy 3 (n .1)) (getD m a nan) (getD m b nan) (getD m c nan) (getD m d nan) ≡ getD m (at (stepBy w (n .1))) nan)
-    (rw (p, mul-zero)) (rw (q, mul-one, back w l)) (rw (r, mul-one, add-zero)) (rw (s, mul-one))
-
--- what the code does at pixel i, whose components go by their bits: its step, and the two magnitudes that it chooses
-pub kept-is : (w : ℕ) (m : List Float) (gx gy : List ℤ) (i : ℕ) {sector step : ℕ} {a b r : Float} → 0 < w → w ≤ i
+-- what the code does at pixel i, whose components go by their bits: the offset of its first neighbour, and the two magnitudes that it chooses
+pub kept-is : (w : ℕ) (m : List Float) (gx gy : List ℤ) (i : ℕ) {sector : ℕ} {o : Offset} {a b r : Float}
     → SFits w16 (getD gx i (pos 0)) → SFits w16 (getD gy i (pos 0))
-    → sector ≡ sectorOf (toZ w16 (ofZ w16 (getD gx i (pos 0)))) (toZ w16 (ofZ w16 (getD gy i (pos 0)))) → step ≡ stepOf sector 3
-    → a ≡ beforeAt w m i step → b ≡ afterAt w m i step
+    → sector ≡ sectorOf (toZ w16 (ofZ w16 (getD gx i (pos 0)))) (toZ w16 (ofZ w16 (getD gy i (pos 0)))) → o ≡ neighbours sector .0
+    → a ≡ firstAt w m i o → b ≡ secondAt w m i o
     → r ≡ cond (keeps (getD m i nan) a b) (getD m i nan) plusZero → r ≡ keptAt w m gx gy i
 unfolding keptAt
-kept-is w m gx gy i {sector} {step} {a} {b} l h f g e s p q k =
-    let x : a ≡ getD m (i - stepOf sector w) nan = p ∙ rw s (chosen m w l (λ n. i - n) refl (omega arith) refl (omega arith) sector) in
-    let y : b ≡ getD m (i + stepOf sector w) nan = q ∙ rw s (chosen m w l (λ n. i + n) refl (omega arith) refl (omega arith) sector) in
+kept-is w m gx gy i {sector} f g e s p q k =
     let c : sector ≡ sectorOf (getD gx i (pos 0)) (getD gy i (pos 0)) = rw (toZ-ofZ w16 _ f, toZ-ofZ w16 _ g) at e in
-    k ∙ rw (x, y, ← c)
+    k ∙ rw (p, q, s, c)
 
 -- ---- a pixel
 
@@ -110,7 +100,7 @@ inner-says d x y e =
     record { right = ltb-true _ _ (a .0); left = ltb-true _ _ (b .0); down = ltb-true _ _ (c .0); up = ltb-true _ _ (c .1) }
 
 module _ (d : Size) (m : List Float) (gx gy : List ℤ) (x y : ℕ) where
-  -- an inner pixel is kept by its step, an outer one is +0
+  -- an inner pixel is kept by its two neighbours, an outer one is +0
   pixel-is : suppressedAt d m gx gy x y ≡ cond (inner d x y) (keptAt (d .width) m gx gy (y * d .width + x)) plusZero
   unfolding keptAt suppressedAt
   pixel-is = go (inner d x y) refl
@@ -119,8 +109,8 @@ module _ (d : Size) (m : List Float) (gx gy : List ℤ) (x y : ℕ) where
       go true e =
           let i = inner-says d x y e in
           let p = y * d .width + x in
-          let o = opposite (d .width) x y (omega arith) (i .right) (i .down) (sectorOf (getD gx p (pos 0)) (getD gy p (pos 0))) in
-          rw (e, o .before, o .after)
+          let o = opposite m (d .width) x y (omega arith) (i .right) (i .down) (sectorOf (getD gx p (pos 0)) (getD gy p (pos 0))) in
+          rw (e, o .first, o .second)
       go false e = rw e
 
   outer-is : (Inner d x y → ⊥) → plusZero ≡ suppressedAt d m gx gy x y

@@ -13,11 +13,11 @@ ghost use Prim.Native.Nat.{_≤_};
 ghost use lib.ListN.{length};
 ghost use Rattle.rules.specs.Limits.{maxSide};
 ghost use Rattle.rules.specs.Picture.{area, filled};
-ghost use Rattle.rules.specs.Sector.{sectorOf};
+ghost use Rattle.rules.specs.Sector.{sectorOf, offset, neighbours};
 ghost use Rattle.rules.specs.Suppression.{suppressedAt};
 ghost use Rattle.rules.specs.Calls.{painted, nonMaximumSuppression};
 ghost use Rattle.suppression.specs.Lent.{Around, Inside, InnerRow, Pictures};
-ghost use Rattle.suppression.specs.Steps.{stepOf, atStep, beforeAt, afterAt, keptAt, rowAt};
+ghost use Rattle.suppression.specs.Beside.{atOffset, firstAt, secondAt, keptAt, rowAt};
 
 // The sector of a gradient, by squares (01.Gradient.7 to 01.Gradient.11): (a + b)² < 2a² is 2ab + b² < a², which 32 bits hold.
 pub fn sector(gx: i16, gy: i16) -> u8
@@ -45,57 +45,60 @@ fn pick(test: bool, yes: f32, no: f32) -> f32
     if test { yes } else { no }
 }
 
-// How many entries after a pixel the second neighbour of its sector stands, in the three by three about it; the first stands as many
-// before (01.Gradient.13 to 01.Gradient.17).
-fn neighbour_step(sector: u8) -> u8
-    ensures { λ r. ⌜ r ≡ stepOf sector 3 ⌝ }
+// A step to a neighbour: columns to the right, rows downwards.
+struct Offset {
+    dx: i8,
+    dy: i8,
+}
+
+// The first neighbour of a sector, as 01's table has it; the second is its opposite (01.Gradient.13 to 01.Gradient.17).
+fn first_neighbour(sector: u8) -> Offset
+    ensures { λ r. ⌜ offset (r .dx) (r .dy) ≡ neighbours sector .0 ⌝ }
 {
     match sector {
-        0 => 1,
-        45 => 2,
-        90 => 3,
-        _ => 4,
+        0 => Offset { dx: -1, dy: 0 },
+        45 => Offset { dx: 1, dy: -1 },
+        90 => Offset { dx: 0, dy: -1 },
+        _ => Offset { dx: -1, dy: -1 },
     }
 }
 
-// One of the four that stand so many entries away. All four are read, so that a row goes many pixels at once.
-fn at_step(step: u8, one: f32, two: f32, three: f32, four: f32) -> f32
-    ensures { λ r. ⌜ r ≡ atStep step one two three four ⌝ }
+// The magnitude at an offset: the one in the pixel's own row, or one of three in the row that the offset leads to. All four are read, so
+// that a row goes many pixels at once.
+fn at_offset(to: Offset, beside: f32, left: f32, middle: f32, right: f32) -> f32
+    ensures { λ r. ⌜ r ≡ atOffset (offset (to .dx) (to .dy)) beside left middle right ⌝ }
 {
-    pick(
-        step == 1,
-        one,
-        pick(step == 2, two, pick(step == 3, three, four)),
-    )
+    let across = pick(to.dx == 0, middle, pick(to.dx == 1, right, left));
+    pick(to.dy == 0, beside, across)
 }
 
-// The neighbour that stands before inner pixel i.
-fn neighbour_before(magnitude: &[f32], width: usize, i: usize, step: u8) -> f32
+// The first neighbour of inner pixel i.
+fn neighbour_at(magnitude: &[f32], width: usize, i: usize, to: Offset) -> f32
     requires { ⌜ Around width (now magnitude) i ⌝ }
-    ensures { λ r. ⌜ r ≡ beforeAt width (now (magnitude .entry)) i step ⌝ }
+    ensures { λ r. ⌜ r ≡ firstAt width (now (magnitude .entry)) i (offset (to .dx) (to .dy)) ⌝ }
 {
     let above = i - width;
-    at_step(
-        step,
+    at_offset(
+        to,
         magnitude[i - 1],
-        magnitude[above + 1],
-        magnitude[above],
         magnitude[above - 1],
+        magnitude[above],
+        magnitude[above + 1],
     )
 }
 
-// The neighbour that stands after it.
-fn neighbour_after(magnitude: &[f32], width: usize, i: usize, step: u8) -> f32
+// The second: what stands on the other side of the pixel.
+fn neighbour_opposite(magnitude: &[f32], width: usize, i: usize, to: Offset) -> f32
     requires { ⌜ Around width (now magnitude) i ⌝ }
-    ensures { λ r. ⌜ r ≡ afterAt width (now (magnitude .entry)) i step ⌝ }
+    ensures { λ r. ⌜ r ≡ secondAt width (now (magnitude .entry)) i (offset (to .dx) (to .dy)) ⌝ }
 {
     let below = i + width;
-    at_step(
-        step,
+    at_offset(
+        to,
         magnitude[i + 1],
-        magnitude[below - 1],
-        magnitude[below],
         magnitude[below + 1],
+        magnitude[below],
+        magnitude[below - 1],
     )
 }
 
@@ -104,11 +107,11 @@ fn suppressed(magnitude: &[f32], gx: &[i16], gy: &[i16], width: usize, i: usize)
     requires { ⌜ Inside width (now magnitude) (now gx) (now gy) i ⌝ }
     ensures { λ r. ⌜ r ≡ keptAt width (now (magnitude .entry)) (now (gx .entry)) (now (gy .entry)) i ⌝ }
 {
-    let step = neighbour_step(sector(gx[i], gy[i]));
-    let before = neighbour_before(magnitude, width, i, step);
-    let after = neighbour_after(magnitude, width, i, step);
+    let to = first_neighbour(sector(gx[i], gy[i]));
+    let first = neighbour_at(magnitude, width, i, to);
+    let second = neighbour_opposite(magnitude, width, i, to);
     let m = magnitude[i];
-    pick((before <= m) & (after <= m), m, 0.0)
+    pick((first <= m) & (second <= m), m, 0.0)
 }
 
 // An inner row, whose first pixel is `start`: +0, its inner pixels, +0.

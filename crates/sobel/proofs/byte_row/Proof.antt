@@ -1,35 +1,19 @@
--- `byte_row` meets its contract: a row through the border, or its inner pixels straight from the bytes between two that are not. Assumes nothing.
+-- `byte_row` meets its contract: the bytes of the row's sums. Assumes nothing.
 use borrow.Author.Needs.{needs}
 use native.Mathlib.Omega.{arith}
-use Rattle.sobel.proofs.Pixels.{InnerRow, inner-row, three-runs, inside-is, byte-about}
-use Rattle.border.proofs.Writing.{Row, row-of-picture}
+use Rattle.rules.proofs.Fill.{recount}
+use Rattle.sobel.proofs.Bytes.{small, row-byte}
 use Rattle.sobel.proofs.byte_row.Statement.{statement}
 use Rattle.sobel.proofs.byte_row.Tie as tie
 
--- the row lies in the picture
-row : (s : tie.Start) → Row (s .args .size) (s .args .y)
-row s = row-of-picture _ _ _ (s .pre .0) (s .pre .1)
-
--- and has inner pixels
-inner : (c : tie.Else1) → let s = c .before .before .before .before .before .before in InnerRow (s .args .size) (s .args .y) (c .before .inner-count .result)
-inner c = inner-row (row (c .before .before .before .before .before .before)) (c .before .inner-count .ensures) (omega arith)
-
-returns-2 : tie.Need-returns-2
-returns-2 c =
-    let two = c .before .before .before .before .before .before in
-    let one = two .before .before .before .before in
-    let e = one .before .before in
-    let r = inner e in
-    let n = e .before .inner-count .ensures in
-    three-runs _ _ _ _ (r .columns) (omega arith) (one .outer-bytes2 .kept .1 .1 .1 .1 .1 .0)
-    (λ k h l. byte-about _ _ _ _ _ (inside-is _ _ _ _ _ k n h l)) (one .outer-bytes2 .ensures) (two .inner-bytes .ensures)
-    (c .before .before .outer-bytes3 .ensures)
+bytes-of-requires : tie.Need-bytes-of-requires
+bytes-of-requires c κs =
+    let s = c .before .before .before .before .before .before .before .before .before in
+    let r = small _ _ _ _ _ (c .before .before .before .before .before .sum-row .ensures) (omega arith) in
+    (s .pre .0, rw (s .pre .3) r, search needs)
 
 pub byte-row-spec : {M : Type 1} → statement M
 byte-row-spec =
     tie.close
-    (tie.spec (λ c. omega (arith, row (c .before .before .before))) (λ c. omega (arith, row (c .before .before .before .before))) (λ c κs. search needs)
-    (λ c κs. let r = row (c .before .before .before .before .before .before .before) in search needs) (λ c. search needs) (λ c. search needs)
-    (λ c. omega (arith, inner c)) (λ c. omega (arith, inner c)) (λ c κs. let r = inner (c .before) in search needs)
-    (λ c κs. let r = inner (c .before .before .before .before .before) in search needs)
-    (λ c κs. let r = inner (c .before .before .before .before .before .before .before .before .before) in search needs) (λ c. search needs) returns-2)
+    (tie.spec (λ c κs. search needs) bytes-of-requires (λ c. search needs)
+    (λ c. recount _ _ _ _ _ (rw (c .before .before .before .before .before .before .before .before .before .before .before .before .pre .3) at (c .before .before .bytes-of .ensures)) (row-byte _ _ _ _ _ (c .before .before .before .before .before .before .before .before .sum-row .ensures))))

@@ -23,10 +23,10 @@ returns-2 c =
     let e = one .before .before .before in
     let r = inner e in
     let n = e .before .inner-count .ensures in
-    let kept = one .outer-gradients2 .kept .1 .1 .1 .1 .1 in (
-      three-runs _ _ _ _ (r .columns) (omega arith) (kept .0) (λ k h l. about _ _ _ _ _ (inside-is _ _ _ _ _ k n h l) gxTable)
+    let k = r .columns in (
+      three-runs _ _ _ _ (omega (arith, k)) (omega arith) (λ i h l. about _ _ _ _ _ (inside-is _ _ _ _ _ i n h l) gxTable)
           (one .outer-gradients2 .ensures .0) (two .inner-gradients .ensures .0) (three .0),
-      three-runs _ _ _ _ (r .columns) (omega arith) (kept .1 .0) (λ k h l. about _ _ _ _ _ (inside-is _ _ _ _ _ k n h l) gyTable)
+      three-runs _ _ _ _ (omega (arith, k)) (omega arith) (λ i h l. about _ _ _ _ _ (inside-is _ _ _ _ _ i n h l) gyTable)
           (one .outer-gradients2 .ensures .1) (two .inner-gradients .ensures .1) (three .1),
     )
 

@@ -11,7 +11,7 @@ use lib.ListN.{length, set, length-set}
 use Rattle.rules.specs.Picture.{filled}
 use Rattle.rules.specs.Sums.{plusZero}
 use Rattle.rules.proofs.Fill.{Filling, filling-more, fill-start, fill-more}
-use Rattle.suppression.specs.Steps.{rowAt}
+use Rattle.suppression.specs.Beside.{rowAt}
 use Rattle.suppression.proofs.Neighbours.{filling-on, filling-whole}
 use Rattle.suppression.proofs.suppress_row.Statement.{statement}
 use Rattle.suppression.proofs.suppress_row.Tie as tie

@@ -1,6 +1,5 @@
--- `suppressed` meets its contract: all the neighbours are read, and the sector's step chooses two of them. Assumes nothing.
+-- `suppressed` meets its contract: all the neighbours are read, and the sector's offset chooses two of them. Assumes nothing.
 use borrow.Author.Needs.{needs, sfits-of}
-use native.Mathlib.Omega.{arith}
 use Rattle.suppression.proofs.Neighbours.{kept-is}
 use Rattle.suppression.proofs.suppressed.Statement.{statement}
 use Rattle.suppression.proofs.suppressed.Tie as tie
@@ -10,8 +9,8 @@ returns c =
     let b = c .before .before in
     let n = b .before .before in
     let e = n .before in
-    kept-is _ _ _ _ _ (omega arith) (omega arith) (sfits-of (e .before .before .sector-arg .given)) (sfits-of (e .before .sector-arg2 .given))
-    (e .sector .ensures) (n .neighbour-step .ensures) (b .before .neighbour-before .ensures) (b .neighbour-after .ensures) (c .pick .ensures)
+    kept-is _ _ _ _ _ (sfits-of (e .before .before .sector-arg .given)) (sfits-of (e .before .sector-arg2 .given)) (e .sector .ensures)
+    (n .first-neighbour .ensures) (b .before .neighbour-at .ensures) (b .neighbour-opposite .ensures) (c .pick .ensures)
 
 pub suppressed-spec : {M : Type 1} → statement M
 suppressed-spec =

@@ -1,12 +1,12 @@
--- `neighbour_step` meets its contract: its match is 01's table. Assumes nothing.
+-- `first_neighbour` meets its contract: its match is 01's table. Assumes nothing.
 use borrow.Author.Tests.{ne-eqb}
 use Rattle.rules.specs.Sector.{neighbours}
-use Rattle.suppression.proofs.neighbour_step.Statement.{statement}
-use Rattle.suppression.proofs.neighbour_step.Tie as tie
+use Rattle.suppression.proofs.first_neighbour.Statement.{statement}
+use Rattle.suppression.proofs.first_neighbour.Tie as tie
 
-pub neighbour-step-spec : {M : Type 1} → statement M
+pub first-neighbour-spec : {M : Type 1} → statement M
 unfolding neighbours
-neighbour-step-spec =
+first-neighbour-spec =
     tie.close
     (tie.spec (λ c. rw (c .match .keys1)) (λ c. rw (c .match .keys2)) (λ c. rw (c .match .keys3))
     (λ c. let n = c .match .rest in rw (ne-eqb _ _ (n .0 .0 .1), ne-eqb _ _ (n .0 .1), ne-eqb _ _ (n .1))))
