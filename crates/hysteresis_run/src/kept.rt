@@ -1,4 +1,6 @@
 // What the buffers hold before a call, and the lines of what they hold after it, beside numbers of the case.
+use cases::wide;
+use rules::Walk;
 
 // Each buffer has numbers of its own: an entry that is left alone shows whose it is and where it stood. No call here writes these.
 pub(crate) const MARKS_BEFORE: [u8; 10] = [71, 72, 73, 74, 75, 76, 77, 78, 79, 80];
@@ -36,6 +38,13 @@ pub(crate) fn places_line(name: &[u8], got: &[u32], case: &[u32], from: usize) {
             report::places(name, got, &case[from..end]);
         }
     }
+}
+
+// The three numbers of a walk's state, beside three of the case.
+pub(crate) fn state_lines(walk: Walk, width: u32, height: u32, pending: u32) {
+    report::number(b"  width", walk.width as u64, wide(width));
+    report::number(b"  height", walk.height as u64, wide(height));
+    report::number(b"  pending", walk.pending as u64, wide(pending));
 }
 
 // How many marks are 3.

@@ -1,12 +1,12 @@
-// A start that is refused: its number, no state, and the buffers as before.
+// A start that is refused: its number, a state of zeros, and the buffers as before.
 use crate::kept::MARKS_BEFORE;
 use crate::kept::STACK_BEFORE;
+use crate::kept::state_lines;
 use cases::at_most;
 use cases::count;
 use rules::Size;
 use rules::Started;
 use rules::Thresholds;
-use rules::Walk;
 use rules::codes::float;
 
 // The case: the sides, how many magnitudes there are (all 5), low and high, how many marks and how many places, and the number.
@@ -45,11 +45,7 @@ fn thresholds_of(case: &[u32; 80]) -> Thresholds {
 
 fn after(case: &[u32; 80], started: Started, marks: &[u8; 10], stack: &[u32; 10]) {
     report::number(b"", started.refusal as u64, cases::wide(case[8]));
-    report::yes(b"  no state", is_none(started.walk));
+    state_lines(started.walk, 0, 0, 0);
     report::bytes(b"  marks", marks, &MARKS_BEFORE);
     report::places(b"  stack", stack, &STACK_BEFORE);
-}
-
-fn is_none(walk: Walk) -> bool {
-    (walk.width == 0) & (walk.height == 0) & (walk.pending == 0)
 }

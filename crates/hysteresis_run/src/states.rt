@@ -1,6 +1,7 @@
 // A map request and then a slice of one state, forged or not: their numbers, and all that they leave.
 use crate::kept::bytes_line;
 use crate::kept::places_line;
+use crate::kept::state_lines;
 use cases::at_most;
 use cases::count;
 use cases::wide;
@@ -52,17 +53,8 @@ fn map(case: &[u32; 80]) {
 
 fn after_map(case: &[u32; 80], asked: Mapped, out: &[u8; 5]) {
     report::number(b"", asked.refusal as u64, wide(case[9]));
-    state_line(case, asked.walk, case[3]);
+    state_lines(asked.walk, case[1], case[2], case[3]);
     bytes_line(b"  map", out, case, 22);
-}
-
-// The state has the sides that it had, and so many pending.
-fn state_line(case: &[u32; 80], back: Walk, pending: u32) {
-    report::yes(
-        b"  sides handed back",
-        (back.width == count(case[1])) & (back.height == count(case[2])),
-    );
-    report::number(b"  pending", back.pending as u64, wide(pending));
 }
 
 fn slice(case: &[u32; 80]) {
@@ -79,7 +71,7 @@ fn slice(case: &[u32; 80]) {
 fn after_slice(case: &[u32; 80], made: Sliced, marks: &[u8; 5], stack: &[u32; 5]) {
     report::number(b"  slice of the same", made.refusal as u64, wide(case[8]));
     report::number(b"  takes", made.takes as u64, wide(case[20]));
-    state_line(case, made.walk, case[21]);
+    state_lines(made.walk, case[1], case[2], case[21]);
     bytes_line(b"  marks", marks, case, 27);
     places_line(b"  stack", stack, case, 32);
 }
