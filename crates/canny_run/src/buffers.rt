@@ -28,10 +28,10 @@ fn lend(v: &[u32; 80], pixels: &[u8], taps: &[f32]) {
     let c = case::room(v, 3);
     let d = case::room(v, 4);
     let poison = case::poison_of(v);
-    let mut work = [poison.float; ROOM];
-    let mut magnitude = [poison.float; ROOM];
-    let mut gx = [poison.short; ROOM];
-    let mut gy = [poison.short; ROOM];
+    let mut work = [poison.work; ROOM];
+    let mut magnitude = [poison.magnitude; ROOM];
+    let mut gx = [poison.gx; ROOM];
+    let mut gy = [poison.gy; ROOM];
     lend_others(
         v,
         pixels,
@@ -42,10 +42,10 @@ fn lend(v: &[u32; 80], pixels: &[u8], taps: &[f32]) {
         &mut gy[0..d],
     );
     let n = count(v[case::ZEROED]);
-    report::yes(b"  work", floats(&work, n, poison.float));
-    report::yes(b"  magnitude", floats(&magnitude, n, poison.float));
-    report::yes(b"  gx", shorts(&gx, n, poison.short));
-    report::yes(b"  gy", shorts(&gy, n, poison.short));
+    report::yes(b"  work", floats(&work, n, poison.work));
+    report::yes(b"  magnitude", floats(&magnitude, n, poison.magnitude));
+    report::yes(b"  gx", shorts(&gx, n, poison.gx));
+    report::yes(b"  gy", shorts(&gy, n, poison.gy));
 }
 
 fn lend_others(
@@ -64,9 +64,9 @@ fn lend_others(
     let size = case::size(v);
     let thresholds = case::thresholds(v);
     let poison = case::poison_of(v);
-    let mut blurred = [poison.byte; ROOM];
-    let mut marks = [poison.byte; ROOM];
-    let mut stack = [poison.word; ROOM];
+    let mut blurred = [poison.blurred; ROOM];
+    let mut marks = [poison.marks; ROOM];
+    let mut stack = [poison.stack; ROOM];
     let mut map = [poison.map; ROOM];
     let pending = stopped_walk(v, &mut marks, &mut stack);
     let got = canny::canny(
@@ -83,7 +83,7 @@ fn lend_others(
         &mut stack[0..g],
         &mut map[0..h],
     );
-    counted(v, got, pending);
+    answered(v, got, pending, &map);
     left(v, &blurred, &marks, &stack, &map);
 }
 
@@ -102,10 +102,31 @@ fn stopped_walk(v: &[u32; 80], marks: &mut [u8], stack: &mut [u32]) -> usize {
         .pending
 }
 
-fn counted(v: &[u32; 80], got: Counted, pending: usize) {
-    report::number(b"", got.refusal as u64, wide(v[case::REFUSAL]));
+// A run that is to give a map has it under the case's own name, any other its number.
+fn answered(v: &[u32; 80], got: Counted, pending: usize, map: &[u8; 1922]) {
+    if v[case::MAP_FOLLOWS] == 0 {
+        report::number(b"", got.refusal as u64, wide(v[case::REFUSAL]));
+        first_of_map(b"  map", v, map);
+    } else {
+        first_of_map(b"", v, map);
+        report::number(b"  its number", got.refusal as u64, wide(v[case::REFUSAL]));
+    }
     report::number(b"  count", got.count as u64, wide(v[case::COUNT]));
     report::number(b"  pending before", pending as u64, wide(v[case::PENDING]));
+}
+
+fn first_of_map(name: &[u8], v: &[u32; 80], map: &[u8]) {
+    let mut wanted = [case::poison_of(v).map; 48];
+    if v[case::MAP_FOLLOWS] != 0 {
+        case::map(v, &mut wanted);
+    }
+    beside(name, map, &wanted);
+}
+
+fn beside(name: &[u8], map: &[u8], wanted: &[u8; 48]) {
+    if 48 <= map.len() {
+        report::bytes(name, &map[0..48], wanted);
+    }
 }
 
 fn left(
@@ -117,30 +138,18 @@ fn left(
 ) {
     let poison = case::poison_of(v);
     let n = count(v[case::ZEROED]);
-    report::yes(b"  blurred", bytes(blurred, n, poison.byte));
-    report::yes(b"  marks", bytes(marks, n, poison.byte));
-    report::yes(b"  stack", words(stack, n, poison.word));
-    map_lines(v, map, poison.map);
+    report::yes(b"  blurred", bytes(blurred, n, poison.blurred));
+    report::yes(b"  marks", bytes(marks, n, poison.marks));
+    report::yes(b"  stack", words(stack, n, poison.stack));
+    rest_of_map(v, map, poison.map);
 }
 
-fn map_lines(v: &[u32; 80], map: &[u8], poison: u8) {
-    if map.len() < 48 {
-        return;
+fn rest_of_map(v: &[u32; 80], map: &[u8], poison: u8) {
+    if 48 <= map.len() {
+        let more = count(v[case::MORE_EDGES]);
+        report::yes(
+            b"  the map from there on",
+            edges_then(&map[48..], more, poison),
+        );
     }
-    first_of_map(v, &map[0..48], poison);
-    let more = count(v[case::MORE_EDGES]);
-    report::yes(
-        b"  the map from there on",
-        edges_then(&map[48..], more, poison),
-    );
-}
-
-fn first_of_map(v: &[u32; 80], map: &[u8], poison: u8) {
-    if v[case::MAP_FOLLOWS] == 0 {
-        report::bytes(b"  map", map, &[poison; 48]);
-        return;
-    }
-    let mut wanted = [0u8; 48];
-    case::map(v, &mut wanted);
-    report::bytes(b"  map", map, &wanted);
 }

@@ -8,12 +8,16 @@ ghost use Prim.Native.Nat.{_≤_};
 ghost use lib.ListN.{length};
 ghost use mathlib.Core.Path.{_≡_};
 
-// What the buffers hold before the call.
+// What each buffer holds before the call. No two of one type hold the same, and no run leaves it there, so that an entry of one buffer that
+// comes into another shows.
 pub(crate) struct Poison {
-    pub(crate) float: f32,
-    pub(crate) short: i16,
-    pub(crate) byte: u8,
-    pub(crate) word: u32,
+    pub(crate) work: f32,
+    pub(crate) magnitude: f32,
+    pub(crate) gx: i16,
+    pub(crate) gy: i16,
+    pub(crate) blurred: u8,
+    pub(crate) marks: u8,
+    pub(crate) stack: u32,
     pub(crate) map: u8,
 }
 
@@ -21,19 +25,25 @@ pub(crate) struct Poison {
 pub(crate) fn poison_of(case: &[u32; 80]) -> Poison {
     if case[0] == 1 {
         return Poison {
-            float: report::nan(),
-            short: -32768,
-            byte: 255,
-            word: 4294967295,
+            work: report::nan(),
+            magnitude: report::infinity(),
+            gx: -32768,
+            gy: 32767,
+            blurred: 254,
+            marks: 253,
+            stack: 4294967295,
             map: 7,
         };
     }
     Poison {
-        float: report::infinity(),
-        short: 32767,
-        byte: 3,
-        word: 4294967295,
-        map: 255,
+        work: report::infinity(),
+        magnitude: 255.0,
+        gx: 1020,
+        gy: -1020,
+        blurred: 128,
+        marks: 3,
+        stack: 5,
+        map: 254,
     }
 }
 

@@ -8,8 +8,8 @@ use filters::gaussian::gaussian_blur;
 pub(crate) fn run(v: &[u32; 80], pixels: &[u8], taps: &[f32]) {
     let n = case::work_room(v);
     let m = case::room(v);
-    let mut work = [case::work_before(v); 10];
-    let mut out = [7u8; 10];
+    let mut work = case::floats_at(v, case::WORK);
+    let mut out = case::OUT_BEFORE;
     let got = called(v, pixels, taps, &mut work[0..n], &mut out[0..m]);
     case::answered(v, got, &out);
     left(v, &work);
@@ -48,19 +48,8 @@ fn box_filter(made: u32) -> BoxBlurFilter {
     BoxBlurFilter::with_border(cases::border(made))
 }
 
+// The whole work buffer: zero as far as the picture goes, and kept past it. A refused call, or one of no pixels, keeps all of it.
 fn left(v: &[u32; 80], work: &[f32; 10]) {
-    worked(work, case::cleared(v), case::work_before(v));
-}
-
-// The work buffer: zero as far as the picture goes, and kept past it. A refused call, or one of no pixels, keeps all of it.
-fn worked(work: &[f32], n: usize, before: f32) {
-    if n <= work.len() {
-        if 0 < n {
-            report::yes(b"  work cleared", report::floats_are(&work[0..n], 0.0));
-        }
-        report::yes(
-            b"  work kept from there on",
-            report::floats_are(&work[n..], before),
-        );
-    }
+    let wanted = case::floats_at(v, case::WORK_WANTED);
+    report::floats(b"  work", work, &wanted);
 }

@@ -27,15 +27,14 @@ pub(crate) fn size(v: &[u32; 80]) -> Size {
     }
 }
 
-// Place 4: how many pixels of those that stand from 20 on.
+// Place 4: how many pixels of those that stand from 18 on.
 pub(crate) fn pixel_count(v: &[u32; 80]) -> usize
     ensures { λ r. ⌜ r ≤ 10 ⌝ }
 {
     at_most(v[4], 10)
 }
 
-// Places 5 and 6: the number that is wanted, and how many entries of the output are lent: all of them 7 before the call, and after it what
-// stands from 30 on.
+// Places 5 and 6: the number that is wanted, and how many entries of the output are lent; what they are after the call stands from 28 on.
 pub(crate) const REFUSAL: usize = 5;
 
 pub(crate) fn room(v: &[u32; 80]) -> usize
@@ -44,9 +43,12 @@ pub(crate) fn room(v: &[u32; 80]) -> usize
     at_most(v[6], 10)
 }
 
-pub(crate) const PIXELS: usize = 20;
+// The output before the call: an entry that is left alone shows where it stood. No call here writes these.
+pub(crate) const OUT_BEFORE: [u8; 10] = [201, 202, 203, 204, 205, 206, 207, 208, 209, 210];
 
-pub(crate) const WANTED: usize = 30;
+pub(crate) const PIXELS: usize = 18;
+
+const WANTED: usize = 28;
 
 pub(crate) fn bytes_at(v: &[u32], from: usize) -> [u8; 10]
     ensures { λ r. ⌜ 10 ≡ length r ⌝ }
@@ -60,6 +62,20 @@ pub(crate) fn bytes_at(v: &[u32], from: usize) -> [u8; 10]
         }
     }
     [0; 10]
+}
+
+pub(crate) fn floats_at(v: &[u32], from: usize) -> [f32; 10]
+    ensures { λ r. ⌜ 10 ≡ length r ⌝ }
+{
+    let mut out = [0.0f32; 10];
+    if from < 70 {
+        let end = from + 10;
+        if end <= v.len() {
+            cases::floats(&v[from..end], &mut out);
+            return out;
+        }
+    }
+    [0.0; 10]
 }
 
 // Places 7 and 8: the sides of the kernel, or how many taps across and down, that the call is told. Places 9 to 12: how many weights or
@@ -106,47 +122,45 @@ pub(crate) fn down(v: &[u32; 80]) -> [f32; 3]
     [float(v[14]); 3]
 }
 
-// Places 15 to 17: how many entries of the work buffer are lent, what they all are before the call, and how many are zero after it.
+// Place 15: how many entries of the work buffer are lent. All of it before the call stands from 38 on, and after it from 48 on.
 pub(crate) fn work_room(v: &[u32; 80]) -> usize
     ensures { λ r. ⌜ r ≤ 10 ⌝ }
 {
     at_most(v[15], 10)
 }
 
-pub(crate) fn work_before(v: &[u32; 80]) -> f32 {
-    float(v[16])
-}
+pub(crate) const WORK: usize = 38;
 
-pub(crate) fn cleared(v: &[u32; 80]) -> usize
-    ensures { λ r. ⌜ r ≤ 10 ⌝ }
-{
-    at_most(v[17], 10)
-}
+pub(crate) const WORK_WANTED: usize = 48;
 
-// Place 18: which call it is: of the kernels 0 a kernel, 1 sharpening; of the blurs 0 a separable kernel, 1 the blur, 2 the box.
-pub(crate) const WHICH: usize = 18;
+// Place 16: which call it is: of the kernels 0 a kernel, 1 sharpening; of the blurs 0 a separable kernel, 1 the blur, 2 the box.
+pub(crate) const WHICH: usize = 16;
 
-// The lines of a call's number and of its output. An array comes as it is: of one that was lent in part a slice would need a proof of its
-// length.
+// Place 17: how many entries of a picture of nines are copied.
+pub(crate) const NINES: usize = 17;
+
+// The lines of a call's number and of its output: an accepted call has its output under the case's own name, a refused one its number. An
+// array comes as it is: of one that was lent in part a slice would need a proof of its length.
 pub(crate) fn answered(v: &[u32; 80], got: u8, out: &[u8; 10]) {
-    say_number(v, got);
-    let wanted = bytes_at(v, WANTED);
-    lent(out, &wanted, room(v));
+    if v[REFUSAL] == 0 {
+        lent(b"", v, out);
+        report::number(b"  its number", got as u64, 0);
+        return;
+    }
+    report::number(b"", got as u64, wide(v[REFUSAL]));
+    lent(b"  its bytes", v, out);
 }
 
-// The number, and the beginning of the next line. Place 19: whether the output alone is told, under the line's own name.
-fn say_number(v: &[u32; 80], got: u8) {
-    if v[19] == 0 {
-        report::number(b"", got as u64, wide(v[REFUSAL]));
-        report::words(b"  its bytes");
-    }
+fn lent(name: &[u8], v: &[u32; 80], out: &[u8; 10]) {
+    let wanted = bytes_at(v, WANTED);
+    first(name, out, &wanted, room(v));
 }
 
 // The first n entries, which were lent.
-fn lent(out: &[u8], wanted: &[u8], n: usize) {
+fn first(name: &[u8], out: &[u8], wanted: &[u8], n: usize) {
     if n <= out.len() {
         if n <= wanted.len() {
-            report::bytes(b"", &out[0..n], &wanted[0..n]);
+            report::bytes(name, &out[0..n], &wanted[0..n]);
         }
     }
 }

@@ -7,7 +7,7 @@ use filters::sharpen::SharpenFilter;
 
 pub(crate) fn run(v: &[u32; 80], pixels: &[u8], weights: &[f32]) {
     let n = case::room(v);
-    let mut out = [7u8; 10];
+    let mut out = case::OUT_BEFORE;
     let got = called(v, pixels, weights, &mut out[0..n]);
     case::answered(v, got, &out);
 }
@@ -27,14 +27,14 @@ fn sharpen_filter(made: u32) -> SharpenFilter {
     SharpenFilter::with_border(cases::border(made))
 }
 
-// A picture of nines by a kernel, with room for 641 pixels. Place 4 has how many pixels, and place 19 how many nines the output has then.
+// A picture of nines by a kernel, with room for 641 pixels. Place 4 has how many pixels.
 pub(crate) fn widest(v: &[u32; 80], weights: &[f32]) {
     let pixels = [9u8; 641];
     let n = at_most(v[4], 641);
     let mut out = [7u8; 641];
     let got = called(v, &pixels[0..n], weights, &mut out);
     report::number(b"", got as u64, wide(v[case::REFUSAL]));
-    nines(&out, at_most(v[19], 641));
+    nines(&out, at_most(v[case::NINES], 641));
 }
 
 fn nines(out: &[u8], n: usize) {

@@ -1,29 +1,50 @@
-// What a buffer holds after a call. Buffers are arrays here, so that a caller that lent a part of one owes no proof of its length.
+// What the buffers hold before a call, and the lines of what they hold after it, beside numbers of the case.
+use cases::wide;
+use rules::Walk;
 
-pub(crate) fn places_are(stack: &[u32; 9], v: u32) -> bool {
-    let mut same = true;
-    let mut i = 0;
-    while i < 9 {
-        same = same & (stack[i] == v);
-        i += 1;
+// Each buffer has numbers of its own: an entry that is left alone shows whose it is and where it stood. No call here writes these.
+pub(crate) const MARKS_BEFORE: [u8; 10] = [71, 72, 73, 74, 75, 76, 77, 78, 79, 80];
+
+pub(crate) const STACK_BEFORE: [u32; 10] = [81, 82, 83, 84, 85, 86, 87, 88, 89, 90];
+
+pub(crate) const MAP_BEFORE: [u8; 10] = [91, 92, 93, 94, 95, 96, 97, 98, 99, 100];
+
+// Up to ten bytes beside the numbers of the case from one on.
+pub(crate) fn bytes_line(name: &[u8], got: &[u8], case: &[u32], from: usize) {
+    let mut wanted = [0u8; 10];
+    if from <= 70 {
+        let end = from + 10;
+        if end <= case.len() {
+            cases::bytes(&case[from..end], &mut wanted);
+        }
     }
-    same
+    as_many(name, got, &wanted);
 }
 
-pub(crate) fn marks_are(marks: &[u8; 9], v: u8) -> bool {
-    report::all_are(marks, v)
+// An array comes as it is: of one that was lent a slice would need a proof of its length.
+fn as_many(name: &[u8], got: &[u8], wanted: &[u8; 10]) {
+    let all = &wanted[..];
+    let n = got.len();
+    if n <= all.len() {
+        report::bytes(name, got, &all[0..n]);
+    }
 }
 
-pub(crate) fn entries_are(out: &[u8; 5], v: u8) -> bool {
-    report::all_are(out, v)
+// The same of places.
+pub(crate) fn places_line(name: &[u8], got: &[u32], case: &[u32], from: usize) {
+    if from <= case.len() {
+        if got.len() <= case.len() - from {
+            let end = from + got.len();
+            report::places(name, got, &case[from..end]);
+        }
+    }
 }
 
-pub(crate) fn same_marks(a: &[u8; 5], b: &[u8; 5]) -> bool {
-    check::same(a, b)
-}
-
-pub(crate) fn same_places(a: &[u32; 5], b: &[u32; 5]) -> bool {
-    (a[0] == b[0]) & (a[1] == b[1]) & (a[2] == b[2]) & (a[3] == b[3]) & (a[4] == b[4])
+// The three numbers of a walk's state, beside three of the case.
+pub(crate) fn state_lines(walk: Walk, width: u32, height: u32, pending: u32) {
+    report::number(b"  width", walk.width as u64, wide(width));
+    report::number(b"  height", walk.height as u64, wide(height));
+    report::number(b"  pending", walk.pending as u64, wide(pending));
 }
 
 // How many marks are 3.

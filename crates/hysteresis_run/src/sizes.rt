@@ -46,8 +46,8 @@ fn in_slices(magnitudes: &[f32; 64], budget: usize, n: usize) -> bool {
         low: 5.0,
         high: 9.0,
     };
-    let mut marks = [9u8; 64];
-    let mut stack = [9u32; 64];
+    let mut marks = [7u8; 64];
+    let mut stack = [8u32; 64];
     let started = hysteresis::start(magnitudes, size, thresholds, &mut marks, &mut stack);
     let mut walk = started.walk;
     let mut good = true;

@@ -1,8 +1,7 @@
-// A map request and then a slice of one state, forged or not, with its buffers compared before and after.
-use crate::kept::entries_are;
-use crate::kept::finished;
-use crate::kept::same_marks;
-use crate::kept::same_places;
+// A map request and then a slice of one state, forged or not: their numbers, and all that they leave.
+use crate::kept::bytes_line;
+use crate::kept::places_line;
+use crate::kept::state_lines;
 use cases::at_most;
 use cases::count;
 use cases::wide;
@@ -11,7 +10,8 @@ use rules::Sliced;
 use rules::Walk;
 
 // The case: the state's sides and what is pending, the budget, how many marks, places and entries of the map are lent, the slice's number
-// and the map's, the five marks and the five places, and, of a slice that is accepted, its takes and how many marks are 3 after it.
+// and the map's, the five marks from 10 on and the five places from 15, the slice's takes and what is pending after it, the map from 22 on,
+// and the marks from 27 and the places from 32 after the slice.
 pub(crate) fn run(case: &[u32; 80]) {
     map(case);
     slice(case);
@@ -46,26 +46,15 @@ fn map(case: &[u32; 80]) {
     let n = at_most(case[7], 5);
     let marks = marks_of(case);
     let stack = stack_of(case);
-    let mut out = [7u8; 5];
+    let mut out = [91u8, 92, 93, 94, 95];
     let asked = hysteresis::map(walk, &marks[0..m], &stack[0..k], &mut out[0..n]);
     after_map(case, asked, &out);
 }
 
 fn after_map(case: &[u32; 80], asked: Mapped, out: &[u8; 5]) {
     report::number(b"", asked.refusal as u64, wide(case[9]));
-    handed_back(case, asked.walk);
-    report::yes(
-        b"  output kept if refused",
-        (case[9] == 0) | entries_are(out, 7),
-    );
-}
-
-fn handed_back(case: &[u32; 80], back: Walk) {
-    let walk = walk_of(case);
-    report::yes(
-        b"  state handed back",
-        (back.width == walk.width) & (back.height == walk.height) & (back.pending == walk.pending),
-    );
+    state_lines(asked.walk, case[1], case[2], case[3]);
+    bytes_line(b"  map", out, case, 22);
 }
 
 fn slice(case: &[u32; 80]) {
@@ -82,13 +71,7 @@ fn slice(case: &[u32; 80]) {
 fn after_slice(case: &[u32; 80], made: Sliced, marks: &[u8; 5], stack: &[u32; 5]) {
     report::number(b"  slice of the same", made.refusal as u64, wide(case[8]));
     report::number(b"  takes", made.takes as u64, wide(case[20]));
-    if case[8] == 0 {
-        report::number(b"  marks 3", finished(marks), wide(case[21]));
-        return;
-    }
-    report::yes(
-        b"  buffers kept",
-        same_marks(marks, &marks_of(case)) & same_places(stack, &stack_of(case)),
-    );
-    handed_back(case, made.walk);
+    state_lines(made.walk, case[1], case[2], case[21]);
+    bytes_line(b"  marks", marks, case, 27);
+    places_line(b"  stack", stack, case, 32);
 }

@@ -11,6 +11,7 @@ ghost use Rattle.rules.specs.Picture.{filled};
 ghost use Rattle.rules.specs.Gradient.{energy};
 ghost use Rattle.rules.specs.Root.{capS, Near, nearRoot, rootOf, magnitudeOf};
 ghost use Rattle.rules.specs.Calls.{magnitudeAt, gradientMagnitude};
+ghost use Rattle.magnitude.specs.Guess.{cappedS, firstGuess, guessOf, nearTest, rootTest, bitsTest, bitsFrom, Tried};
 ghost use Rattle.magnitude.specs.Lent.{SizeOf, SquareOf, BitsOf, Target, AllBelow};
 
 // ---- components
@@ -38,24 +39,37 @@ fn energy(gx: i16, gy: i16) -> u32
     square_of(gx) + square_of(gy)
 }
 
-// ---- the root: guessed in floats, then tested or mended in whole numbers. Nothing is proved, or needed, of the guess.
+// ---- the root: guessed in floats, then tested or mended in whole numbers. No stage needs anything of the guess.
 
 // From this S on the magnitude is 255.
 const CAP: u32 = 65025;
 
+// S, or the cap where it is less.
+fn capped(s: u32) -> u16
+    ensures { λ r. ⌜ r ≡ cappedS s ⌝ }
+{
+    if CAP <= s {
+        return 65025;
+    }
+    s as u16
+}
+
 // A float within 5 in 100 of the root of f, from its bits.
-fn first_guess(f: f32) -> f32 {
+fn first_guess(f: f32) -> f32
+    ensures { λ r. ⌜ r ≡ firstGuess f ⌝ }
+{
     if f > 0.0 {
         return f32::from_bits(f32::to_bits(f) / 2 % 1073741824 + 532487669);
     }
     1.0
 }
 
-// Tried on every s, this is the magnitude itself, so that the tests pass and mending finds nothing to do; no proof leans on it. Two of
-// Heron's steps, and a third from the rest of the square, worked out in two halves of the digits since one f32 cannot hold it.
-fn guess(s: u32) -> f32 {
-    let c = if s < CAP { s as u16 } else { 65025 };
-    let f = c as f32;
+// Tried on every s, this is the magnitude itself (`guess_holds`), so that mending finds nothing to do; no proof leans on it. Two of Heron's
+// steps, and a third from the rest of the square, worked out in two halves of the digits since one f32 cannot hold it.
+fn guess(s: u32) -> f32
+    ensures { λ r. ⌜ r ≡ guessOf s ⌝ }
+{
+    let f = capped(s) as f32;
     let a = first_guess(f);
     let b = (a + f / a) * 0.5;
     let y = (b + f / b) * 0.5;
@@ -70,7 +84,7 @@ fn guess(s: u32) -> f32 {
 
 // The bits of a float from +0 or -0 on. 1 for any other float: no magnitude has these bits.
 fn bits_of(y: f32) -> u32
-    ensures { λ r. ⌜ ((r ≡ 1 → ⊥) → ofBits binary32 r ≡ y) ⌝ }
+    ensures { λ r. ⌜ (r ≡ bitsFrom y) × ((r ≡ 1 → ⊥) → ofBits binary32 r ≡ y) ⌝ }
 {
     if 0.0 <= y { f32::to_bits(y) } else { 1 }
 }
@@ -78,7 +92,7 @@ fn bits_of(y: f32) -> u32
 // Whether m is the whole number nearest the root of t * 2^32: whether m² + m reaches it, by less than 2m.
 fn is_near(t: u32, m: u32) -> bool
     requires { ⌜ m < 2 ^ 24 ⌝ }
-    ensures { λ r. ⌜ (r ≡ true → Near (t * 2 ^ 32) m) ⌝ }
+    ensures { λ r. ⌜ (r ≡ nearTest t m) × (r ≡ true → Near (t * 2 ^ 32) m) ⌝ }
 {
     let v = (m as u64) * ((m + 1) as u64);
     let high = (v / 4294967296) as u32;
@@ -89,7 +103,7 @@ fn is_near(t: u32, m: u32) -> bool
 // Whether b are the bits of the root of an s below the cap. 0x3f80_0000 are those of 1 and 0x4380_0000 those of 256; between them the
 // exponent tells by which power of 4 the s must be multiplied for its root to have 24 binary digits.
 fn are_root_bits(s: u32, b: u32) -> bool
-    ensures { λ r. ⌜ (r ≡ true → BitsOf s b) ⌝ }
+    ensures { λ r. ⌜ (r ≡ rootTest s b) × (r ≡ true → BitsOf s b) ⌝ }
 {
     let t = s << (2 * (7 - (b / 8388608 + 1) % 8));
     let near = is_near(t, b % 8388608 + 8388608);
@@ -98,7 +112,7 @@ fn are_root_bits(s: u32, b: u32) -> bool
 
 // Whether b are the bits of the magnitude of s. 0x437f_0000 are those of 255.
 fn are_bits(s: u32, b: u32) -> bool
-    ensures { λ r. ⌜ (r ≡ true → BitsOf s b) ⌝ }
+    ensures { λ r. ⌜ (r ≡ bitsTest s b) × (r ≡ true → BitsOf s b) ⌝ }
 {
     ((s == 0) & (b == 0)) | ((CAP <= s) & (b == 0x437f_0000)) | are_root_bits(s, b)
 }
@@ -160,6 +174,13 @@ pub fn magnitude_of(s: u32) -> f32
         return root_from(s, guess(s));
     }
     255.0
+}
+
+// Whether the guess passes its test, so that nothing is mended: it is then the magnitude already. For a run over every S (docs/LOOSE.md).
+pub fn guess_holds(s: u32) -> bool
+    ensures { λ r. ⌜ Tried s r ⌝ }
+{
+    are_bits(s, bits_of(guess(s)))
 }
 
 // ---- the whole picture

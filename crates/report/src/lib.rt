@@ -43,14 +43,6 @@ pub fn yes(name: &[u8], got: bool) -> bool
     got
 }
 
-// A call that changes nothing: its number, and its output of sevens.
-pub fn kept(name: &[u8], got: u8, wanted: u8, out: &[u8]) -> bool
-    ensures { λ r. ⌜ r ≡ eqb got wanted && every (λ i. eqb (getD (now (out .entry)) i 0) 7) (length (now (out .entry))) ⌝ }
-{
-    let answered = number(name, got as u64, wanted as u64);
-    answered & yes(b"  the output kept", all_are(out, 7))
-}
-
 // Bytes, in decimal.
 pub fn bytes(name: &[u8], got: &[u8], wanted: &[u8]) -> bool
     ensures { λ r. ⌜ r ≡ alike eqb 0 (now (got .entry)) (now (wanted .entry)) ⌝ }
@@ -89,6 +81,47 @@ fn decimals(values: &[u8]) {
 }
 
 fn decimal(value: u8) {
+    io::write_all(STDOUT_FILENO, b" ");
+    io::print_decimal(STDOUT_FILENO, value as u64);
+}
+
+// Places of a stack, in decimal.
+pub fn places(name: &[u8], got: &[u32], wanted: &[u32]) -> bool
+    ensures { λ r. ⌜ r ≡ alike eqb 0 (now (got .entry)) (now (wanted .entry)) ⌝ }
+{
+    io::write_all(STDOUT_FILENO, name);
+    io::write_all(STDOUT_FILENO, b": got");
+    place_decimals(got);
+    io::write_all(STDOUT_FILENO, b" wanted");
+    place_decimals(wanted);
+    io::write_all(STDOUT_FILENO, b"\n");
+    same_places(got, wanted)
+}
+
+fn same_places(got: &[u32], wanted: &[u32]) -> bool
+    ensures { λ r. ⌜ r ≡ alike eqb 0 (now (got .entry)) (now (wanted .entry)) ⌝ }
+{
+    if got.len() != wanted.len() {
+        return false;
+    }
+    let mut same = true;
+    let mut i = 0;
+    while i < got.len() {
+        same = same & (got[i] == wanted[i]);
+        i += 1;
+    }
+    same
+}
+
+fn place_decimals(values: &[u32]) {
+    let mut i = 0;
+    while i < values.len() {
+        place_decimal(values[i]);
+        i += 1;
+    }
+}
+
+fn place_decimal(value: u32) {
     io::write_all(STDOUT_FILENO, b" ");
     io::print_decimal(STDOUT_FILENO, value as u64);
 }
@@ -160,6 +193,47 @@ fn has_bits(x: f32, wanted: u32) -> bool
     bits(x) == wanted
 }
 
+// Floats, by their bits.
+pub fn floats(name: &[u8], got: &[f32], wanted: &[f32]) -> bool
+    ensures { λ r. ⌜ r ≡ alike (λ a b. eqb (shownBits a) (shownBits b)) Ieee.nan (now (got .entry)) (now (wanted .entry)) ⌝ }
+{
+    io::write_all(STDOUT_FILENO, name);
+    io::write_all(STDOUT_FILENO, b": got");
+    patterns(got);
+    io::write_all(STDOUT_FILENO, b" wanted");
+    patterns(wanted);
+    io::write_all(STDOUT_FILENO, b"\n");
+    same_floats(got, wanted)
+}
+
+fn same_floats(got: &[f32], wanted: &[f32]) -> bool
+    ensures { λ r. ⌜ r ≡ alike (λ a b. eqb (shownBits a) (shownBits b)) Ieee.nan (now (got .entry)) (now (wanted .entry)) ⌝ }
+{
+    if got.len() != wanted.len() {
+        return false;
+    }
+    let mut same = true;
+    let mut i = 0;
+    while i < got.len() {
+        same = same & (bits(got[i]) == bits(wanted[i]));
+        i += 1;
+    }
+    same
+}
+
+fn patterns(values: &[f32]) {
+    let mut i = 0;
+    while i < values.len() {
+        pattern(values[i]);
+        i += 1;
+    }
+}
+
+fn pattern(value: f32) {
+    io::write_all(STDOUT_FILENO, b" ");
+    io::print_hex(STDOUT_FILENO, bits(value) as u64, 8);
+}
+
 // Every NaN is printed as this one.
 const NAN_BITS: u32 = 0x7fc0_0000;
 
@@ -194,19 +268,6 @@ pub fn all_are(buffer: &[u8], v: u8) -> bool
     let mut i = 0;
     while i < buffer.len() {
         same = same & (buffer[i] == v);
-        i += 1;
-    }
-    same
-}
-
-// Whether every float has v's bits.
-pub fn floats_are(buffer: &[f32], v: f32) -> bool
-    ensures { λ r. ⌜ r ≡ every (λ i. eqb (shownBits (getD (now (buffer .entry)) i Ieee.nan)) (shownBits v)) (length (now (buffer .entry))) ⌝ }
-{
-    let mut same = true;
-    let mut i = 0;
-    while i < buffer.len() {
-        same = same & (bits(buffer[i]) == bits(v));
         i += 1;
     }
     same

@@ -30,7 +30,7 @@ pub(crate) fn size(v: &[u32; 80]) -> Size {
 }
 
 // Place 4: how many pixels of those that stand from 10 on. Place 5: the number that is wanted. Places 6 and 7: how many entries of an
-// output are lent, all of them 7 before the call; what they are after it stands from 20 on, of gy from 30 on.
+// output are lent; what they are after the call stands from 20 on, of gy from 30 on.
 pub(crate) fn pixel_count(v: &[u32; 80]) -> usize
     ensures { λ r. ⌜ r ≤ 10 ⌝ }
 {
@@ -50,6 +50,35 @@ pub(crate) fn room_of_gy(v: &[u32; 80]) -> usize
 {
     at_most(v[7], 10)
 }
+
+// What each buffer holds before the call: an entry that is left alone shows whose it is and where it stood. No call here writes these.
+pub(crate) const OUT_BEFORE: [u8; 10] = [201, 202, 203, 204, 205, 206, 207, 208, 209, 210];
+
+pub(crate) const GX_BEFORE: [i16; 10] = [
+    2001,
+    2002,
+    2003,
+    2004,
+    2005,
+    2006,
+    2007,
+    2008,
+    2009,
+    2010,
+];
+
+pub(crate) const GY_BEFORE: [i16; 10] = [
+    3001,
+    3002,
+    3003,
+    3004,
+    3005,
+    3006,
+    3007,
+    3008,
+    3009,
+    3010,
+];
 
 // Place 8: the median's window. Place 9: whether it is the median, and not Sobel's filter.
 pub(crate) const WINDOW: usize = 8;

@@ -12,7 +12,7 @@ pub(crate) fn run(v: &[u32; 80]) {
     let pixels = case::bytes_at(v, case::PIXELS);
     let n = case::pixel_count(v);
     let m = case::room(v);
-    let mut out = [7u8; 10];
+    let mut out = case::OUT_BEFORE;
     let got = called(v, &pixels[0..n], &mut out[0..m]);
     left(v, got, &out);
 }

@@ -16,8 +16,8 @@ fn lend(v: &[u32; 80], pixels: &[u8]) {
     let m = case::room_of_gy(v);
     let size = case::size(v);
     let border = case::border(v);
-    let mut gx = [7i16; 10];
-    let mut gy = [7i16; 10];
+    let mut gx = case::GX_BEFORE;
+    let mut gy = case::GY_BEFORE;
     let got = sobel_gradients(pixels, size, border, &mut gx[0..n], &mut gy[0..m]);
     left(v, got, &gx, &gy);
 }
@@ -47,8 +47,8 @@ fn lent(got: &[i16], wanted: &[i16], n: usize) {
 
 // The largest sides, of one grey: no change anywhere. The case has the sides in places 2 and 3.
 pub(crate) fn widest(v: &[u32; 80]) {
-    let mut gx = [7i16; 641];
-    let mut gy = [7i16; 641];
+    let mut gx = [2001i16; 641];
+    let mut gy = [3001i16; 641];
     let got = sobel_gradients(
         &[9; 640],
         case::size(v),
@@ -57,16 +57,16 @@ pub(crate) fn widest(v: &[u32; 80]) {
         &mut gy,
     );
     report::number(b"", got as u64, 0);
-    flat(&gx);
-    flat(&gy);
+    flat(&gx, 2001);
+    flat(&gy, 3001);
 }
 
-fn flat(component: &[i16]) {
+fn flat(component: &[i16], before: i16) {
     if 640 < component.len() {
         report::yes(b"  all 0", report::numbers_are(&component[0..640], 0));
         report::yes(
             b"  past the picture",
-            report::numbers_are(&component[640..], 7),
+            report::numbers_are(&component[640..], before),
         );
     }
 }

@@ -1,6 +1,5 @@
-// Eleven floats and eight signed numbers of a case, and how many floats are the same.
+// Eleven floats and eight signed numbers of a case.
 ghost use mathlib.Core.Path.{_≡_};
-ghost use Prim.Native.Nat.{_≤_};
 ghost use lib.ListN.{length};
 
 pub(crate) fn floats_at(case: &[u32], from: usize) -> [f32; 11]
@@ -29,24 +28,4 @@ pub(crate) fn numbers_at(case: &[u32], from: usize) -> [i16; 8]
         }
     }
     [0; 8]
-}
-
-// How many entries are the same, bit by bit.
-pub(crate) fn equal(a: &[f32; 11], b: &[f32; 11]) -> u64 {
-    let mut count = 0;
-    let mut i = 0;
-    while i < 11 {
-        count += one_if(report::bits(a[i]) == report::bits(b[i]));
-        i += 1;
-    }
-    count
-}
-
-fn one_if(same: bool) -> u64
-    ensures { λ r. ⌜ r ≤ 1 ⌝ }
-{
-    if same {
-        return 1;
-    }
-    0
 }

@@ -1,4 +1,4 @@
-// The magnitude of every S below the cap, by 01's inequality.
+// The magnitude of every S below the cap, by 01's inequality, and the guess of every S up to the cap, before it is mended.
 ghost use Prim.Native.Nat.{_^_, _≤_};
 
 // Whether the float of the bits c is m * 2^-k with (2m - 1)^2 < 4 S 4^k < (2m + 1)^2.
@@ -27,6 +27,19 @@ pub(crate) fn every() -> u64 {
     let mut s = 1u32;
     while s < 65025 {
         if nearest(s, report::bits(suppression::magnitude_of(s))) {
+            count += 1;
+        }
+        s += 1;
+    }
+    count
+}
+
+// How many S from 0 to 65,025 have a guess that passes its test.
+pub(crate) fn guesses() -> u64 {
+    let mut count = 0u64;
+    let mut s = 0u32;
+    while s < 65026 {
+        if magnitude::guess_holds(s) {
             count += 1;
         }
         s += 1;

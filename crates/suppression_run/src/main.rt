@@ -31,6 +31,7 @@ fn line(case: &[u32; 80]) {
         3 => nearest_of_all(case[1]),
         4 => pictures::magnitude(case),
         5 => pictures::suppression(case),
+        6 => guesses_that_hold(case[1]),
         _ => {}
     }
 }
@@ -46,4 +47,8 @@ fn magnitude_of(s: u32, wanted: u32) {
 
 fn nearest_of_all(wanted: u32) {
     report::number(b"", magnitudes::every(), wide(wanted));
+}
+
+fn guesses_that_hold(wanted: u32) {
+    report::number(b"", magnitudes::guesses(), wide(wanted));
 }

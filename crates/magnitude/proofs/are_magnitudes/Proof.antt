@@ -26,10 +26,10 @@ loop-again c =
       search needs,
       λ e.
           let p = both _ _ e in
-          let w = c .are-bits .ensures (p .1) in
+          let w = c .are-bits .ensures .1 (p .1) in
           all-more (now (l .before .before .args .magnitude)) (l .loop .inv .1 (p .0))
           (magnitude-at _ _ _ (sfits-of (g .before .before .energy-arg .given)) (sfits-of (g .before .energy-arg2 .given)) (g .energy .ensures)
-          (sym (c .before .bits-of .ensures (w .some)) ∙ w .are)),
+          (sym (c .before .bits-of .ensures .1 (w .some)) ∙ w .are)),
     )
 
 pub are-magnitudes-spec : {M : Type 1} → statement M

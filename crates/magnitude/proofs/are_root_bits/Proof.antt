@@ -8,11 +8,14 @@ use Rattle.magnitude.proofs.are_root_bits.Statement.{statement}
 use Rattle.magnitude.proofs.are_root_bits.Tie as tie
 
 returns : tie.Need-returns
-returns c e =
-    let p = both _ _ e in
-    let q = both _ _ (p .0) in
-    let r = both _ _ (q .0) in
-    root-bits (ltb-true _ _ (r .0)) (leb-true _ _ (r .1)) (ltb-true _ _ (q .1)) refl (c .is-near .ensures (p .1))
+returns c = (
+  rw (c .is-near .ensures .0),
+  λ e.
+      let p = both _ _ e in
+      let q = both _ _ (p .0) in
+      let r = both _ _ (q .0) in
+      root-bits (ltb-true _ _ (r .0)) (leb-true _ _ (r .1)) (ltb-true _ _ (q .1)) refl (c .is-near .ensures .1 (p .1)),
+)
 
 pub are-root-bits-spec : {M : Type 1} → statement M
 are-root-bits-spec =
