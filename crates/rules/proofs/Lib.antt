@@ -22,3 +22,4 @@ pub mod Paths
 pub mod Sizes
 pub mod Gradients
 pub mod Sorting
+pub mod Frames
