@@ -33,15 +33,6 @@ length-more n h = ap length (more-digits n h) ∙ length-append (decimal (n / 10
 pub length-1 : (n : ℕ) → n < 10 → length (decimal n) ≡ 1
 length-1 n h = ap length (one-digit n h)
 
-pub length-2 : (n : ℕ) → 10 ≤ n → n < 100 → length (decimal n) ≡ 2
-length-2 n l h = omega (arith, length-more n l, length-1 (n / 10) (omega arith))
-
-pub length-3 : (n : ℕ) → 100 ≤ n → n < 1000 → length (decimal n) ≡ 3
-length-3 n l h = omega (arith, length-more n (omega arith), length-2 (n / 10) (omega arith) (omega arith))
-
-pub length-4 : (n : ℕ) → 1000 ≤ n → n < 10000 → length (decimal n) ≡ 4
-length-4 n l h = omega (arith, length-more n (omega arith), length-3 (n / 10) (omega arith) (omega arith))
-
 -- at most one more than its tenth has; so a side has at most two, a count at most four
 one-more : (n k : ℕ) → length (decimal (n / 10)) ≤ k → length (decimal n) ≤ k + 1
 one-more n k h = go (ltb n 10) refl

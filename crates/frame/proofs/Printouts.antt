@@ -13,12 +13,12 @@ use Rattle.rules.specs.Limits.{maxSide, maxTaps}
 use Rattle.rules.specs.Picture.{area, filled, zeros}
 use Rattle.rules.specs.Refusals.{first, countRow}
 use Rattle.rules.specs.Frame.{breach, frameSize, tapCount, pixelOffset, headerLength, wordAt, frameTaps, framePixels, thresholdsOf}
-use Rattle.rules.specs.Frame.{edgesText, rowsText, refusedText, runText, printout, answerFrame}
+use Rattle.rules.specs.Frame.{edgesText, rowsText, refusedText, runText, printout, placed}
 use Rattle.rules.specs.declared.Size.{Size}
 use Rattle.rules.specs.declared.Counted.{Counted}
 use Rattle.rules.proofs.Fill.{length-tabulate, take-filled}
 use Rattle.rules.proofs.Rows.{input-fits}
-use Rattle.frame.specs.Fitted.{fitted, Small}
+use Rattle.frame.specs.Room.{Small}
 use Rattle.frame.specs.Running.{ran}
 use Rattle.frame.proofs.Breaches.{Laid}
 use Rattle.rules.proofs.Runs.{front}
@@ -40,9 +40,9 @@ module _ (file : List ℕ) where
   unfolding printout
   kept e = rw e
 
-  pub answer-by : {x : ℕ × List ℕ} (p text : List ℕ) → x ≡ fitted p text → printout file ≡ p → x ≡ answerFrame file text
-  unfolding answerFrame
-  answer-by p text q e = rw e q
+  -- what is written is the printout
+  pub written : {x : ℕ × List ℕ} (p text : List ℕ) → x ≡ placed p text → printout file ≡ p → x ≡ placed (printout file) text
+  written p text q e = rw e q
 
   -- the run, on a map that holds anything
   abbrev pub run : List ℕ → Counted × List ℕ

@@ -9,14 +9,14 @@ use native.Mathlib.Omega.{arith}
 use lib.Dec.{ltb}
 use lib.ListN.{length, getD, take, drop, set, length-append, length-take, length-drop, drop-of-length-le}
 use lib.Seq.{sets, sets-eq, length-sets, take-suc, drop-drop}
-use borrow.Author.Tests.{le-leb, lt-leb, ltb-true}
+use borrow.Author.Tests.{ltb-true}
 use borrow.Rule.Slice.PartMut.{putMid, midOf}
 use Rattle.rules.specs.Picture.{tabulate, filled}
-use Rattle.rules.specs.Frame.{newline, space, decimal, refusedText, edgesText, rowsText, pixelText}
+use Rattle.rules.specs.Frame.{newline, space, decimal, refusedText, edgesText, rowsText, pixelText, placed}
 use Rattle.rules.specs.declared.Size.{Size}
 use Rattle.rules.proofs.Fill.{length-tabulate, Filling, filling-part}
 use Rattle.rules.proofs.Grid.{row-in, column-of, row-of, part-length, part-at}
-use Rattle.frame.specs.Fitted.{fitted, Small, Rows}
+use Rattle.frame.specs.Room.{Small, Rows}
 use Rattle.frame.proofs.Decimals.{one-digit, more-digits, few-digits, four-digits}
 
 -- first a, then b
@@ -71,16 +71,10 @@ part-sets p l part a e q h m =
     let s : length (take (length p) (drop a l)) ≤ length p = simp (length-take, length-drop) (omega arith) in
     rw (m, k, drop-of-length-le (take (length p) (drop a l)) s, append-nil, drop-drop (length p) a l, sets-eq p l a (omega arith)) (simp append-assoc)
 
--- ---- the room
-
--- no room
-pub unfit : (p text : List ℕ) → length text < length p → (0, text) ≡ fitted p text
-unfit p text h = rw (lt-leb (length p) (length text) h)
-
 -- the whole written from the start
-pub fit : (p text : List ℕ) {l : List ℕ} {r : ℕ} → length p ≤ length text → Put text 0 p r l → (r, l) ≡ fitted p text
-fit p text h q =
-    let e : _≡_ {A = ℕ} (0 + length p) (length p) = omega arith in rw (le-leb (length p) (length text) h, q .place, e, q .is, from-start p text h)
+pub from-first : (p text : List ℕ) {l : List ℕ} {r : ℕ} → length p ≤ length text → Put text 0 p r l → (r, l) ≡ placed p text
+from-first p text h q =
+    let e : _≡_ {A = ℕ} (0 + length p) (length p) = omega arith in rw (q .place, e, q .is, from-start p text h)
 
 -- ---- the printout's parts
 
@@ -116,7 +110,7 @@ pub length-edges : (d : Size) (count : ℕ)
 unfolding edgesText
 length-edges d count = simp length-append (omega arith)
 
--- 2,369 bytes suffice
+-- so much and no more, which 2,369 bytes hold
 pub record Lengths (d : Size) (count : ℕ) : Type 0 where
   pub width : length (decimal (d .width)) ≤ 2
   pub height : length (decimal (d .height)) ≤ 2
@@ -186,12 +180,12 @@ module _ (d : Size) (map : List ℕ) where
         rw e (filling-part (p .room) target f (q ∙ ap (λ (m : ℕ). filled (m + 1) (lineOf y) mid) row-long) row-at)
 
   -- the rows behind the head, written over a part of the text
-  pub head-and-rows : (count : ℕ) (o l part : List ℕ) (a n : ℕ) → n ≤ length o → n ≡ length (edgesText d count) + d .height * line → length l ≡ length o
+  pub head-and-rows : (count : ℕ) (o l part : List ℕ) (a n : ℕ) → n ≤ length o → n ≡ a + d .height * line → length l ≡ length o
       → (a ≡ length (edgesText d count)) × (l ≡ sets o 0 (edgesText d count)) → part ≡ rowsText d map ++ drop (d .height * line) (midOf a (n - a) l)
-      → (n, putMid a (n - a) l part) ≡ fitted (edgesText d count ++ rowsText d map) o
+      → (n, putMid a (n - a) l part) ≡ placed (edgesText d count ++ rowsText d map) o
   head-and-rows count o l part a n h e k p m =
       let r = length-rows in
       let head : Put o 0 (edgesText d count) a l = record { place = omega (arith, p .0); is = p .1 } in
       let rows : Put l a (rowsText d map) n (putMid a (n - a) l part) =
       record { place = omega (arith, p .0); is = part-sets (rowsText d map) l part a n (omega (arith, p .0)) (omega arith) (rw (← r) at m) } in
-      fit (edgesText d count ++ rowsText d map) o (omega (arith, length-append (edgesText d count) (rowsText d map))) (then head rows)
+      from-first (edgesText d count ++ rowsText d map) o (omega (arith, length-append (edgesText d count) (rowsText d map), p .0)) (then head rows)

@@ -1,3 +1,3 @@
--- What this crate's private functions require and promise.
-pub mod Fitted
+-- What this crate's private functions require and promise, and that every printout has room.
+pub mod Room
 pub mod Running

@@ -8,27 +8,11 @@ ghost use Prim.Native.Nat.{_+_, _*_, _<_, _≤_};
 ghost use lib.Dec.{ltb};
 ghost use lib.ListN.{length, getD, drop};
 ghost use lib.Seq.{sets};
-ghost use Rattle.rules.specs.Picture.{area, filled};
-ghost use Rattle.rules.specs.Frame.{newline, decimal, refusedText, edgesText, rowsText, pixelText};
-ghost use Rattle.frame.specs.Fitted.{fitted, Small, Rows};
+ghost use Rattle.rules.specs.Picture.{filled};
+ghost use Rattle.rules.specs.Frame.{newline, decimal, refusedText, edgesText, rowsText, pixelText, placed};
+ghost use Rattle.frame.specs.Room.{textRoom, Rows, Shown};
 
-// How many digits a number has. The largest is a count, at most 48 by 48.
-fn digits(n: usize) -> usize
-    requires { ⌜ n < 10000 ⌝ }
-    ensures { λ r. ⌜ r ≡ length (decimal n) ⌝ }
-{
-    if n < 10 {
-        return 1;
-    }
-    if n < 100 {
-        return 2;
-    }
-    if n < 1000 {
-        return 3;
-    }
-    4
-}
-
+// A digit's character.
 fn digit(v: usize) -> u8
     requires { ⌜ v < 10 ⌝ }
     ensures { λ r. ⌜ r ≡ 48 + v ⌝ }
@@ -119,16 +103,13 @@ fn put_rows(map: &[u8], size: Size, text: &mut [u8])
     }
 }
 
-// "refused N", where it has room.
+// "refused N".
 pub(crate) fn put_refused(number: u8, text: &mut [u8]) -> usize
-    ensures { λ r. ⌜ (r, now (text .exit)) ≡ fitted (refusedText number) (now (text .entry)) ⌝ }
+    requires { ⌜ textRoom ≤ length (now text) ⌝ }
+    ensures { λ r. ⌜ (r, now (text .exit)) ≡ placed (refusedText number) (now (text .entry)) ⌝ }
 {
-    let n = number as usize;
-    if text.len() < 9 + digits(n) {
-        return 0;
-    }
     let at = put_word(text, 0, b"refused ");
-    put_field(text, at, n, b'\n')
+    put_field(text, at, number as usize, b'\n')
 }
 
 // "edges W H COUNT".
@@ -142,27 +123,13 @@ fn put_head(size: Size, count: usize, text: &mut [u8]) -> usize
     put_field(text, height, count, b'\n')
 }
 
-// The printout's length.
-fn edges_length(size: Size, count: usize) -> usize
-    requires { ⌜ Small size count ⌝ }
-    ensures { λ r. ⌜ r ≡ length (edgesText size count) + size .height * (size .width + 1) ⌝ }
-{
-    let width = size.width;
-    let height = size.height;
-    let rows = height * (width + 1);
-    9 + digits(width) + digits(height) + digits(count) + rows
-}
-
-// The edges and their rows, where they have room.
+// The edges and their rows.
 pub(crate) fn put_edges(size: Size, count: usize, map: &[u8], text: &mut [u8]) -> usize
-    requires { ⌜ Small size count × (area size ≤ length (now map)) ⌝ }
-    ensures { λ r. ⌜ (r, now (text .exit)) ≡ fitted (edgesText size count ++ rowsText size (now (map .entry))) (now (text .entry)) ⌝ }
+    requires { ⌜ Shown size count (now map) (now text) ⌝ }
+    ensures { λ r. ⌜ (r, now (text .exit)) ≡ placed (edgesText size count ++ rowsText size (now (map .entry))) (now (text .entry)) ⌝ }
 {
-    let n = edges_length(size, count);
-    if text.len() < n {
-        return 0;
-    }
     let at = put_head(size, count, text);
-    put_rows(map, size, &mut text[at..n]);
-    n
+    let total = at + size.height * (size.width + 1);
+    put_rows(map, size, &mut text[at..total]);
+    total
 }

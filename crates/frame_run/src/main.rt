@@ -21,13 +21,13 @@ fn lines_of(text: &[u8]) {
     }
 }
 
-// A line's first number says what is looked at: 1 the text, 2 its length in a room, 3 how many shorter lengths break the layout.
+// A line's first number says what is looked at: 1 the text, 2 its length, 3 how many shorter lengths break the layout.
 fn line(case: &[u32; 80]) {
     let file = building::file_of(case);
     let kind = case[0];
     match kind {
-        1 => texts::printed(case, &file),
-        2 => texts::in_room(case, &file),
+        1 => texts::shown(case, &file),
+        2 => texts::measured(case, &file),
         3 => texts::shorter(case, &file),
         _ => {}
     }

@@ -23,3 +23,4 @@ pub mod Paths
 pub mod Sizes
 pub mod Gradients
 pub mod Sorting
+pub mod Frames

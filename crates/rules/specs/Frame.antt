@@ -1,9 +1,10 @@
 -- The frame file and its printout, as bytes (01.Frame.1 to 01.Frame.7).
 use Prim.Native.Nat.{ℕ, zero, suc, _+_, _*_, _/_, _%_}
+use mathlib.Core.Path.{_≡_}
 use mathlib.Core.Bool.{Bool, not, cond, _||_}
 use mathlib.Core.List.{List, [], _∷_, _++_}
-use lib.Dec.{leb, ltb, eqb}
-use lib.ListN.{length, getD, drop}
+use lib.Dec.{ltb, eqb}
+use lib.ListN.{length, getD, take, drop}
 use lib.IntN.{pos}
 use lib.Ieee.{Float, binary32, ofBits}
 use Rattle.rules.specs.Limits.{maxFrameSide, maxFrameLength}
@@ -129,8 +130,21 @@ runText file =
 unfoldable pub printout : List ℕ → List ℕ
 printout file = let text = runText file in cond (breach file) (refusedText 11) text
 
--- what the frame call returns and leaves in the lent text: the printout's length and the printout, or 0 and nothing where it has no room
-unfoldable pub answerFrame : List ℕ → List ℕ → ℕ × List ℕ
-answerFrame file text =
-    let p = printout file in
-    cond (leb (length p) (length text)) (length p, p ++ drop (length p) text) (0, text)
+-- what is returned and left where a text p is written into a lent one: its length, and p, behind which the lent text stays
+abbrev pub placed : List ℕ → List ℕ → ℕ × List ℕ
+placed p text = (length p, p ++ drop (length p) text)
+
+-- what the frame call returns and leaves: the printout of what was read, which is the first `read` bytes of the file, all of them where
+-- `read` is more
+unfoldable pub printed : List ℕ → ℕ → List ℕ → ℕ × List ℕ
+printed file read text = placed (printout (take read file)) text
+
+-- ---- the room for a file
+
+-- one byte more than the largest file, so that a file that is too long is seen to be
+abbrev pub fileRoom : ℕ
+fileRoom = maxFrameLength + 1
+
+-- so no more of a file need be read: the printout of what has room is the whole file's (proofs/Frames)
+abbrev pub RoomDecides : Type 0
+RoomDecides = (file : List ℕ) → printout file ≡ printout (take fileRoom file)
