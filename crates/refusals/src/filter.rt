@@ -14,7 +14,7 @@ use rules::Size;
 use rules::table::bad_count;
 use rules::table::bad_weight;
 ghost use mathlib.Core.Path.{_≡_};
-ghost use Rattle.rules.specs.Refusals.{first, kernelRows, separableRows};
+ghost use Rattle.rules.specs.Refusals.{first, plainRows, kernelRows, separableRows};
 ghost use Rattle.refusals.specs.Rows.{pictureRows, badKernel, badTaps};
 
 // 1: a side over the limit; 2: a picture that is not width times height long. Every filter's call begins with these.
@@ -29,6 +29,20 @@ pub fn of_picture(pixels: &[u8], size: Size) -> u8
     }
     if pixels.len() != size.width * size.height {
         return REFUSED_INPUT;
+    }
+    ACCEPTED
+}
+
+// Sharpen, and Sobel's filter.
+pub fn of_plain(pixels: &[u8], size: Size, out: &[u8]) -> u8
+    ensures { λ r. ⌜ r ≡ first (plainRows size (now (pixels .entry)) (now (out .entry))) ⌝ }
+{
+    let refusal = of_picture(pixels, size);
+    if refusal != ACCEPTED {
+        return refusal;
+    }
+    if out.len() < pixels.len() {
+        return REFUSED_ROOM;
     }
     ACCEPTED
 }
