@@ -16,7 +16,7 @@ ghost use Rattle.cases.specs.Lines.{Case, Onward};
 ghost use Rattle.cases.specs.Lists.{Turned, signedOf};
 
 // How many numbers a case has; those that its line leaves out are 0.
-pub const ROW: usize = 80;
+const ROW: usize = 80;
 
 const COMMENT: u8 = 35;
 

@@ -20,6 +20,12 @@ impl BoxBlurFilter {
         Self::with_border(BorderMode::Clamp)
     }
 
+    pub fn default() -> Self
+        ensures { λ r. ⌜ r .border ≡ BorderMode.Clamp ⌝ }
+    {
+        Self::new()
+    }
+
     pub fn with_border(border: BorderMode) -> Self
         ensures { λ r. ⌜ r .border ≡ border ⌝ }
     {

@@ -21,6 +21,12 @@ impl SharpenFilter {
         Self::with_border(BorderMode::Clamp)
     }
 
+    pub fn default() -> Self
+        ensures { λ r. ⌜ r .border ≡ BorderMode.Clamp ⌝ }
+    {
+        Self::new()
+    }
+
     pub fn with_border(border: BorderMode) -> Self
         ensures { λ r. ⌜ r .border ≡ border ⌝ }
     {

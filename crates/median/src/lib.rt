@@ -278,6 +278,13 @@ impl MedianFilter {
         border: BorderMode::Clamp,
     };
 
+    // The constant under a contract, so that a changed one is refused.
+    pub fn default_size() -> usize
+        ensures { λ r. ⌜ r ≡ defaultWindow ⌝ }
+    {
+        MedianFilter::DEFAULT_SIZE
+    }
+
     pub fn default() -> MedianFilter
         ensures { λ r. ⌜ (r .size ≡ defaultWindow) × (r .border ≡ BorderMode.Clamp) ⌝ }
     {
