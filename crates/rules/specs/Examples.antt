@@ -303,7 +303,7 @@ gradients =
     (0 ∷ 0x3f80_0000 ∷ 0x3fdd_b3d7 ∷ 0x4000_0000 ∷ 0x4077_def6 ∷ 0x4080_0000 ∷ 0x40fd_fdfc ∷ 0x4100_0000 ∷ 0x417f_7fe0 ∷ [])
     ∷ ex (roots (256 ∷ 1023 ∷ 1024 ∷ 4095 ∷ 4096 ∷ 16383 ∷ 16384 ∷ 65024 ∷ []))
     (0x4180_0000 ∷ 0x41ff_dffe ∷ 0x4200_0000 ∷ 0x427f_f800 ∷ 0x4280_0000 ∷ 0x42ff_fe00 ∷ 0x4300_0000 ∷ 0x437e_ff7f ∷ [])
-    ∷ ex (roots (65025 ∷ 65535 ∷ 70000 ∷ 2080800 ∷ [])) (0x437f_0000 ∷ 0x437f_0000 ∷ 0x437f_0000 ∷ 0x437f_0000 ∷ [])
+    ∷ ex (roots (65025 ∷ 65026 ∷ 65534 ∷ 65535 ∷ 70000 ∷ 2080800 ∷ [])) (0x437f_0000 ∷ 0x437f_0000 ∷ 0x437f_0000 ∷ 0x437f_0000 ∷ 0x437f_0000 ∷ 0x437f_0000 ∷ [])
     ∷ ex (shownFloats (gradientMagnitude (sides 3 1) (pos 3 ∷ negsuc 3 ∷ negsuc 255 ∷ []) (pos 4 ∷ pos 3 ∷ negsuc 299 ∷ []) (fromF 305 5)))
     (0 ∷ 0x40a0_0000 ∷ 0x40a0_0000 ∷ 0x437f_0000 ∷ 0x439a_0000 ∷ 0x439a_8000 ∷ [])
     -- the sectors: each side of both limits, all signs, nothing
