@@ -86,13 +86,13 @@ kept-is w m gx gy i {sector} f g e s p q k =
 
 -- ---- a pixel
 
-pub record Inner (d : Size) (x y : ℕ) : Type 0 where
+pub record InnerPixel (d : Size) (x y : ℕ) : Type 0 where
   pub right : 0 < x
   pub left : x + 1 < d .width
   pub down : 0 < y
   pub up : y + 1 < d .height
 
-inner-says : (d : Size) (x y : ℕ) → inner d x y ≡ true → Inner d x y
+inner-says : (d : Size) (x y : ℕ) → inner d x y ≡ true → InnerPixel d x y
 inner-says d x y e =
     let a = both (ltb 0 x) _ e in
     let b = both (ltb (x + 1) (d .width)) _ (a .1) in
@@ -113,7 +113,7 @@ module _ (d : Size) (m : List Float) (gx gy : List ℤ) (x y : ℕ) where
           rw (e, o .first, o .second)
       go false e = rw e
 
-  outer-is : (Inner d x y → ⊥) → plusZero ≡ suppressedAt d m gx gy x y
+  outer-is : (InnerPixel d x y → ⊥) → plusZero ≡ suppressedAt d m gx gy x y
   outer-is off = rw (pixel-is, is-false (inner d x y) (λ e. off (inner-says d x y e)))
 
   -- in an inner row the column decides
@@ -134,7 +134,7 @@ filling-whole {n} {i} {f} {o} {l} k e h p q t = onward k n f e o l h p (filling-
 
 module _ (d : Size) (m : List Float) (gx gy : List ℤ) where
   -- entries that are all of outer pixels, cleared
-  pub outer-are : (x y : ℕ → ℕ) (k n : ℕ) (o : List Float) {r : List Float} → n ≡ k → ((i : ℕ) → i < k → Inner d (x i) (y i) → ⊥) → r ≡ cleared n plusZero o
+  pub outer-are : (x y : ℕ → ℕ) (k n : ℕ) (o : List Float) {r : List Float} → n ≡ k → ((i : ℕ) → i < k → InnerPixel d (x i) (y i) → ⊥) → r ≡ cleared n plusZero o
       → r ≡ filled k (λ i. suppressedAt d m gx gy (x i) (y i)) o
   outer-are x y k n o e off p = recount k _ _ o _ (rw e at p) (λ i h. outer-is d m gx gy (x i) (y i) (off i h))
 

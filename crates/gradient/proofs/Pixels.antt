@@ -20,11 +20,11 @@ use Rattle.border.proofs.Writing.{Row, rewrite-as, write-on}
 use Rattle.pixel.specs.Components.{component, nineEnergy}
 use Rattle.pixel.specs.Halving.{held}
 use Rattle.pixel.proofs.Halving.{held-byte}
-use Rattle.gradient.specs.Nine.{Pixel, aboutAt, nineAbout, nineInside, Inner}
+use Rattle.gradient.specs.Nine.{InPicture, aboutAt, nineAbout, nineInside, InnerCount}
 use Rattle.gradient.specs.Bytes.{sumOf, sumInside}
 
 -- the pixel with index i
-pub pixel-at : (d : Size) (pixels : List ℕ) (i : ℕ) → Picture d pixels → i < area d → Pixel d pixels (i % d .width) (i / d .width)
+pub pixel-at : (d : Size) (pixels : List ℕ) (i : ℕ) → Picture d pixels → i < area d → InPicture d pixels (i % d .width) (i / d .width)
 pixel-at d pixels i p l = record { picture = p; column = column-in d i l; row = row-below d i l }
 
 module _ (d : Size) (mode : BorderMode) (pixels : List ℕ) (x y : ℕ) {nine : List ℕ} (e : nine ≡ nineAbout d mode pixels x y) where
@@ -65,7 +65,7 @@ module _ (d : Size) (mode : BorderMode) (pixels : List ℕ) (x y i : ℕ) (left 
       (sample-at 6 _ (omega arith) (omega arith)) (sample-at 7 _ (omega arith) (omega arith)) (sample-at 8 _ (omega arith) (omega arith))
 
 -- index i of the n inner pixels of row y
-pub inside-is : (d : Size) (mode : BorderMode) (pixels : List ℕ) (y n i : ℕ) → Inner d y n → y * d .width + 1 ≤ i → i < y * d .width + 1 + n
+pub inside-is : (d : Size) (mode : BorderMode) (pixels : List ℕ) (y n i : ℕ) → InnerCount d y n → y * d .width + 1 ≤ i → i < y * d .width + 1 + n
     → nineInside pixels (d .width) i ≡ nineAbout d mode pixels (i % d .width) (i / d .width)
 inside-is d mode pixels y n i r h k =
     let s : 0 < n = omega arith in
@@ -77,7 +77,7 @@ inside-is d mode pixels y n i r h k =
     ∙ sym (ap₂ (nineAbout d mode pixels) (ap (λ (k : ℕ). k % d .width) e ∙ column-of y l) (ap (λ (k : ℕ). k / d .width) e ∙ row-of y l))
 
 -- S in column x of them
-pub sum-inside : (d : Size) (mode : BorderMode) (pixels : List ℕ) (y n x : ℕ) → Inner d y n → 1 ≤ x → x < 1 + n
+pub sum-inside : (d : Size) (mode : BorderMode) (pixels : List ℕ) (y n x : ℕ) → InnerCount d y n → 1 ≤ x → x < 1 + n
     → sumInside pixels (d .width) (y * d .width) x ≡ sumOf d mode pixels y x
 sum-inside d mode pixels y n x r h k =
     let s : 0 < n = omega arith in
@@ -93,7 +93,7 @@ pub record InnerRow (d : Size) (y n : ℕ) : Type 0 where
   pub above : d .width ≤ y * d .width
   pub below : y * d .width + d .width + d .width ≤ area d
 
-pub inner-row : {d : Size} {y n : ℕ} → Row d y → Inner d y n → 0 < n → InnerRow d y n
+pub inner-row : {d : Size} {y n : ℕ} → Row d y → InnerCount d y n → 0 < n → InnerRow d y n
 inner-row {d} {y} r i h =
     let p : 1 ≤ y = i .above h in
     record {

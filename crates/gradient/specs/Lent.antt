@@ -34,7 +34,7 @@ pub record Around (width : ℕ) (magnitude : List Float) (i : ℕ) : Type 0 wher
   pub after : i + width + 1 < length magnitude
 
 -- and with its components
-pub record Inside (width : ℕ) (magnitude : List Float) (gx gy : List ℤ) (i : ℕ) : Type 0 where
+pub record GradientAround (width : ℕ) (magnitude : List Float) (gx gy : List ℤ) (i : ℕ) : Type 0 where
   pub around : Around width magnitude i
   pub long-x : length gx ≡ length magnitude
   pub long-y : length gy ≡ length magnitude

@@ -14,13 +14,13 @@ use Rattle.refusals.specs.Rows.{Picture}
 use Rattle.pixel.specs.Components.{component}
 
 -- a pixel of a lent picture
-pub record Pixel (d : Size) (pixels : List ℕ) (x y : ℕ) : Type 0 where
+pub record InPicture (d : Size) (pixels : List ℕ) (x y : ℕ) : Type 0 where
   pub picture : Picture d pixels
   pub column : x < d .width
   pub row : y < d .height
 
 -- the pixels from index a to index e, and a buffer to write them into
-pub record Run {ℓ} {A : Type ℓ} (d : Size) (a e : ℕ) (out : List A) : Type 0 where
+pub record Stretch {ℓ} {A : Type ℓ} (d : Size) (a e : ℕ) (out : List A) : Type 0 where
   pub from : a ≤ e
   pub to : e ≤ area d
   pub room : area d ≤ length out
@@ -41,13 +41,13 @@ nineInside pixels w i =
     ∷ at (i + w - 1) ∷ at (i + w) ∷ at (i + w + 1) ∷ []
 
 -- each index from a to e has all nine
-pub record Inside (pixels : List ℕ) (w a e : ℕ) : Type 0 where
+pub record HasNine (pixels : List ℕ) (w a e : ℕ) : Type 0 where
   pub from : a ≤ e
   pub above : w + 1 ≤ a
   pub below : e + w < length pixels
 
 -- how many inner pixels row y has: all but two, or none where the picture has no row above or below it
-pub record Inner (d : Size) (y n : ℕ) : Type 0 where
+pub record InnerCount (d : Size) (y n : ℕ) : Type 0 where
   pub columns : 0 < n → n + 2 ≡ d .width
   pub above : 0 < n → 0 < y
   pub below : 0 < n → y + 1 < d .height

@@ -4,10 +4,9 @@ use crate::window::nine_about;
 use crate::window::nine_inside;
 use pixel::components::gx_of;
 use pixel::components::gy_of;
-use refusals::filter::of_picture;
+use refusals::gradient::of_gradients;
 use rules::ACCEPTED;
 use rules::BorderMode;
-use rules::REFUSED_ROOM;
 use rules::Size;
 ghost use mathlib.Core.Path.{_≡_};
 ghost use Prim.Native.Nat.{_≤_, _<_};
@@ -17,7 +16,7 @@ ghost use Rattle.rules.specs.Gradient.{gxTable, gyTable};
 ghost use Rattle.rules.specs.Calls.{sobelGradients};
 ghost use Rattle.border.specs.Lent.{written, writtenRow};
 ghost use Rattle.refusals.specs.Rows.{Picture};
-ghost use Rattle.gradient.specs.Nine.{Run, Inside, insideOf, gxOf, gyOf};
+ghost use Rattle.gradient.specs.Nine.{Stretch, HasNine, insideOf, gxOf, gyOf};
 
 // From index a to index e, through the border.
 fn outer_gradients(
@@ -29,7 +28,7 @@ fn outer_gradients(
     gx: &mut [i16],
     gy: &mut [i16],
 )
-    requires { ⌜ Picture size (now pixels) × Run size a e (now gx) × Run size a e (now gy) ⌝ }
+    requires { ⌜ Picture size (now pixels) × Stretch size a e (now gx) × Stretch size a e (now gy) ⌝ }
     ensures { λ _. ⌜
         (now (gx .exit) ≡ written a e (gxOf size border (now (pixels .entry))) (now (gx .entry)))
         × (now (gy .exit) ≡ written a e (gyOf size border (now (pixels .entry))) (now (gy .entry)))
@@ -46,7 +45,7 @@ fn outer_gradients(
 
 // From index a to index e, where each pixel has its nine bytes in the picture.
 fn inner_gradients(pixels: &[u8], width: usize, a: usize, e: usize, gx: &mut [i16], gy: &mut [i16])
-    requires { ⌜ Inside (now pixels) width a e × (e ≤ length (now gx)) × (e ≤ length (now gy)) ⌝ }
+    requires { ⌜ HasNine (now pixels) width a e × (e ≤ length (now gx)) × (e ≤ length (now gy)) ⌝ }
     ensures { λ _. ⌜
         (now (gx .exit) ≡ written a e (insideOf gxTable (now (pixels .entry)) width) (now (gx .entry)))
         × (now (gy .exit) ≡ written a e (insideOf gyTable (now (pixels .entry)) width) (now (gy .entry)))
@@ -121,15 +120,9 @@ pub fn sobel_gradients(
         ≡ sobelGradients size border (now (pixels .entry)) (now (gx .entry)) (now (gy .entry))
         ⌝ }
 {
-    let refusal = of_picture(pixels, size);
+    let refusal = of_gradients(pixels, size, gx, gy);
     if refusal != ACCEPTED {
         return refusal;
-    }
-    if gx.len() < pixels.len() {
-        return REFUSED_ROOM;
-    }
-    if gy.len() < pixels.len() {
-        return REFUSED_ROOM;
     }
     gradient_rows(pixels, size, border, gx, gy);
     ACCEPTED

@@ -8,10 +8,9 @@ use pixel::byte::place_of;
 use pixel::byte::sobel_byte;
 use pixel::byte::sum_of;
 use pixel::byte::upper_ends;
-use refusals::filter::of_picture;
+use refusals::filter::of_plain;
 use rules::ACCEPTED;
 use rules::BorderMode;
-use rules::REFUSED_ROOM;
 use rules::Size;
 ghost use mathlib.Core.Path.{_≡_};
 ghost use mathlib.Core.Bool.{true};
@@ -22,7 +21,7 @@ ghost use Rattle.rules.specs.Calls.{sobelAt, sobel};
 ghost use Rattle.border.specs.Lent.{written};
 ghost use Rattle.refusals.specs.Rows.{Picture};
 ghost use Rattle.pixel.specs.Halving.{Ends};
-ghost use Rattle.gradient.specs.Nine.{Inside, byteOf};
+ghost use Rattle.gradient.specs.Nine.{HasNine, byteOf};
 ghost use Rattle.gradient.specs.Bytes.{Columns, sumOf, sumInside, endOf, byteBy, Tested};
 ghost use Rattle.gradient.specs.Entries.{AllBelow};
 
@@ -49,7 +48,7 @@ fn outer_sums(
 
 // S of the n inner pixels, columns 1 to n, of the row that begins at index `start`.
 fn inner_sums(pixels: &[u8], width: usize, start: usize, n: usize, sums: &mut [u16])
-    requires { ⌜ Inside (now pixels) width (start + 1) (start + 1 + n) × (1 + n ≤ length (now sums)) ⌝ }
+    requires { ⌜ HasNine (now pixels) width (start + 1) (start + 1 + n) × (1 + n ≤ length (now sums)) ⌝ }
     ensures { λ _. ⌜ now (sums .exit) ≡ written 1 (1 + n) (sumInside (now (pixels .entry)) width start) (now (sums .entry)) ⌝ }
 {
     let end = 1 + n;
@@ -231,12 +230,9 @@ impl SobelFilter {
     pub fn apply(self, pixels: &[u8], size: Size, out: &mut [u8]) -> u8
         ensures { λ r. ⌜ (r, now (out .exit)) ≡ sobel size (self .border) (now (pixels .entry)) (now (out .entry)) ⌝ }
     {
-        let refusal = of_picture(pixels, size);
+        let refusal = of_plain(pixels, size, out);
         if refusal != ACCEPTED {
             return refusal;
-        }
-        if out.len() < pixels.len() {
-            return REFUSED_ROOM;
         }
         let border = self.border;
         byte_rows(pixels, size, border, out);

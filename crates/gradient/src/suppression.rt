@@ -14,7 +14,7 @@ ghost use Rattle.rules.specs.Picture.{area, filled};
 ghost use Rattle.rules.specs.Sector.{offset};
 ghost use Rattle.rules.specs.Suppression.{suppressedAt};
 ghost use Rattle.rules.specs.Calls.{painted, nonMaximumSuppression};
-ghost use Rattle.gradient.specs.Lent.{Around, Inside, InnerRow, Pictures};
+ghost use Rattle.gradient.specs.Lent.{Around, GradientAround, InnerRow, Pictures};
 ghost use Rattle.gradient.specs.Beside.{atOffset, firstAt, secondAt, keptAt, rowAt};
 
 // One of two by a test, with no branch: loops made of it run over many pixels at once.
@@ -65,7 +65,7 @@ fn neighbour_opposite(magnitude: &[f32], width: usize, i: usize, to: Offset) -> 
 
 // What stands at inner pixel i afterwards: its magnitude, if it is at least both neighbours'.
 fn suppressed(magnitude: &[f32], gx: &[i16], gy: &[i16], width: usize, i: usize) -> f32
-    requires { ⌜ Inside width (now magnitude) (now gx) (now gy) i ⌝ }
+    requires { ⌜ GradientAround width (now magnitude) (now gx) (now gy) i ⌝ }
     ensures { λ r. ⌜ r ≡ keptAt width (now (magnitude .entry)) (now (gx .entry)) (now (gy .entry)) i ⌝ }
 {
     let to = first_neighbour(sector(gx[i], gy[i]));

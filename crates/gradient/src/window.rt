@@ -5,11 +5,11 @@ use rules::BorderMode;
 use rules::Size;
 ghost use mathlib.Core.Path.{_≡_};
 ghost use Prim.Native.Nat.{_+_, _<_};
-ghost use Rattle.gradient.specs.Nine.{Pixel, aboutAt, nineAbout, nineInside, Inside, Inner};
+ghost use Rattle.gradient.specs.Nine.{InPicture, aboutAt, nineAbout, nineInside, HasNine, InnerCount};
 
 // The byte under place j of the nine, through the border.
 fn sample(pixels: &[u8], size: Size, border: BorderMode, x: usize, y: usize, j: usize) -> u8
-    requires { ⌜ Pixel size (now pixels) x y × (j < 9) ⌝ }
+    requires { ⌜ InPicture size (now pixels) x y × (j < 9) ⌝ }
     ensures { λ r. ⌜ r ≡ aboutAt size border (now (pixels .entry)) x y j ⌝ }
 {
     let column = place((x + j % 3) as u32, 1, size.width, border);
@@ -25,7 +25,7 @@ pub(crate) fn nine_about(
     x: usize,
     y: usize,
 ) -> [u8; 9]
-    requires { ⌜ Pixel size (now pixels) x y ⌝ }
+    requires { ⌜ InPicture size (now pixels) x y ⌝ }
     ensures { λ r. ⌜ r ≡ nineAbout size border (now (pixels .entry)) x y ⌝ }
 {
     let mut nine = [0u8; 9];
@@ -39,7 +39,7 @@ pub(crate) fn nine_about(
 
 // Straight from the lent bytes.
 pub(crate) fn nine_inside(pixels: &[u8], width: usize, i: usize) -> [u8; 9]
-    requires { ⌜ Inside (now pixels) width i (i + 1) ⌝ }
+    requires { ⌜ HasNine (now pixels) width i (i + 1) ⌝ }
     ensures { λ r. ⌜ r ≡ nineInside (now (pixels .entry)) width i ⌝ }
 {
     let above = i - width;
@@ -60,7 +60,7 @@ pub(crate) fn nine_inside(pixels: &[u8], width: usize, i: usize) -> [u8; 9]
 // How many inner pixels row y has, whose nine bytes are all in the picture; the row's first and last pixel are not among them.
 pub(crate) fn inner_count(size: Size, y: usize) -> usize
     requires { ⌜ y < size .height ⌝ }
-    ensures { λ r. ⌜ Inner size y r ⌝ }
+    ensures { λ r. ⌜ InnerCount size y r ⌝ }
 {
     if y == 0 {
         return 0;

@@ -6,7 +6,7 @@ use Prim.Native.Nat.{_-_, _/_, _%_}
 use denote.Ref.{now}
 use Rattle.rules.specs.Gradient.{gxTable, gyTable}
 use Rattle.pixel.proofs.Weighing.{stored}
-use Rattle.gradient.specs.Nine.{Pixel, gxOf, gyOf}
+use Rattle.gradient.specs.Nine.{InPicture, gxOf, gyOf}
 use Rattle.border.proofs.Writing.{Writing, writing-start, writing-more, writing-end}
 use Rattle.gradient.proofs.Pixels.{pixel-at, about}
 use Rattle.gradient.proofs.components.outer_gradients.Statement.{statement}
@@ -20,7 +20,7 @@ abbrev μ-loop : tie.MeasureT-loop
 
 -- the pixel that a turn writes
 pixel : (c : tie.In-loop Inv-loop μ-loop)
-    → let a = c .before .before .before .args in let i = c .before .loop .i in Pixel (a .size) (now (a .pixels)) (i % a .size .width) (i / a .size .width)
+    → let a = c .before .before .before .args in let i = c .before .loop .i in InPicture (a .size) (now (a .pixels)) (i % a .size .width) (i / a .size .width)
 pixel c = let p = c .before .before .before .pre in pixel-at _ _ _ (p .0) (omega (arith, p .1 .to, c .loop-test .taken))
 
 loop-holds : tie.Need-loop-holds Inv-loop μ-loop

@@ -1,31 +1,30 @@
--- `sobel_gradients` meets its contract: the refusals in their order, then every row. Assumes nothing.
-use borrow.Author.Needs.{needs}
-use mathlib.Core.List.{[], _∷_}
+-- `sobel_gradients` meets its contract: refused, or every row. Assumes nothing.
 use denote.Ref.{now}
-use Rattle.rules.specs.Refusals.{roomRow}
+use mathlib.Core.Path.{ap₂}
+use borrow.Author.Needs.{needs}
 use Rattle.rules.specs.Calls.{sobelGradients}
-use Rattle.refusals.proofs.Refusing.{Passed, early-is, passed, no-room, has-room}
+use Rattle.rules.proofs.Answers.{refused-is, accepted-is}
+use Rattle.gradient.proofs.Answers.{gradients-fit}
 use Rattle.gradient.proofs.components.sobel_gradients.Statement.{statement}
 use Rattle.gradient.proofs.components.sobel_gradients.Tie as tie
 
--- the picture is not refused
-accepted : (c : tie.Else1) → let a = c .before .before .before .args in Passed (a .size) (now (a .pixels))
-accepted c = passed _ _ _ (c .before .of-picture .ensures) (c .if1 .left)
+gradient-rows-requires : tie.Need-gradient-rows-requires
+gradient-rows-requires c κs =
+    let e = c .before .before in
+    let r = e .before in
+    let a = r .before .before .before .before .args in
+    gradients-fit (now (a .gx)) (now (a .gy)) (r .of-gradients .ensures) (e .if1 .left)
+
+returns-2 : tie.Need-returns-2
+unfolding sobelGradients
+returns-2 c =
+    let e = c .before .before .before .before .before in
+    let g = c .before .before .gradient-rows .ensures in
+    accepted-is _ _ (e .before .of-gradients .ensures) _ _ _ (e .if1 .left) (ap₂ (λ x y. (x, y)) (g .0) (g .1))
 
 pub sobel-gradients-spec : {M : Type 1} → statement M
 unfolding sobelGradients
 sobel-gradients-spec =
     tie.close
-    (tie.spec (λ c κs. search needs)
-    (λ c. let a = c .before .before .before .args in let d = a .size in
-    early-is d (now (a .pixels)) _ (c .before .of-picture .ensures) (roomRow d (now (a .gx)) ∷ roomRow d (now (a .gy)) ∷ []) _ _ (c .if1 .taken))
-    (λ c. let p = accepted (c .before) in
-    simp (p .side, p .input, no-room _ _ p (now (c .before .before .before .before .args .gx)) (c .if2 .taken)))
-    (λ c. let p = accepted (c .before .before) in let a = c .before .before .before .before .before .args in
-    simp (p .side, p .input, has-room _ _ p (now (a .gx)) (c .before .if2 .left), no-room _ _ p (now (a .gy)) (c .if3 .taken)))
-    (λ c κs. let p = accepted (c .before .before .before .before) .picture in search needs) (λ c. search needs) (λ c. search needs)
-    (λ c. let t = c .before .before .before .before .before in
-    let p = accepted (t .before .before) in
-    let a = t .before .before .before .before .before .args in
-    let g = c .before .before .gradient-rows .ensures in
-    simp (p .side, p .input, has-room _ _ p (now (a .gx)) (t .before .if2 .left), has-room _ _ p (now (a .gy)) (t .if3 .left), g .0, g .1)))
+    (tie.spec (λ c κs. search needs) (λ c. search needs) (λ c. search needs) (λ c. refused-is _ _ (c .before .of-gradients .ensures) _ _ (c .if1 .taken))
+    gradient-rows-requires (λ c. search needs) (λ c. search needs) returns-2)
