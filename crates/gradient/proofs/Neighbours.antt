@@ -17,7 +17,7 @@ use borrow.Rule.Slice.PartMut.{putMid, midOf}
 use Rattle.rules.specs.Picture.{area, byPixel, filled, cleared}
 use Rattle.rules.specs.Sums.{plusZero}
 use Rattle.rules.specs.Sector.{Offset, offset, sectorOf, neighbours}
-use Rattle.rules.specs.Suppression.{inner, keeps, suppressedAt}
+use Rattle.rules.specs.Suppression.{inner, floats, keeps, suppressedBy, suppressedAt}
 use Rattle.rules.specs.declared.Size.{Size}
 use Rattle.rules.proofs.Bools.{both}
 use Rattle.rules.proofs.Fill.{Filling, filling-part, filling-end, recount, still, onward}
@@ -78,7 +78,7 @@ pub kept-is : (w : ℕ) (m : List Float) (gx gy : List ℤ) (i : ℕ) {sector : 
     → SFits w16 (getD gx i (pos 0)) → SFits w16 (getD gy i (pos 0))
     → sector ≡ sectorOf (toZ w16 (ofZ w16 (getD gx i (pos 0)))) (toZ w16 (ofZ w16 (getD gy i (pos 0)))) → o ≡ neighbours sector .0
     → a ≡ firstAt w m i o → b ≡ secondAt w m i o
-    → r ≡ cond (keeps (getD m i nan) a b) (getD m i nan) plusZero → r ≡ keptAt w m gx gy i
+    → r ≡ cond (keeps floats (getD m i nan) a b) (getD m i nan) plusZero → r ≡ keptAt w m gx gy i
 unfolding keptAt
 kept-is w m gx gy i {sector} f g e s p q k =
     let c : sector ≡ sectorOf (getD gx i (pos 0)) (getD gy i (pos 0)) = rw (toZ-ofZ w16 _ f, toZ-ofZ w16 _ g) at e in
@@ -102,7 +102,7 @@ inner-says d x y e =
 module _ (d : Size) (m : List Float) (gx gy : List ℤ) (x y : ℕ) where
   -- an inner pixel is kept by its two neighbours, an outer one is +0
   pixel-is : suppressedAt d m gx gy x y ≡ cond (inner d x y) (keptAt (d .width) m gx gy (y * d .width + x)) plusZero
-  unfolding keptAt suppressedAt
+  unfolding keptAt suppressedAt suppressedBy
   pixel-is = go (inner d x y) refl
     where
       go : (b : Bool) → inner d x y ≡ b → suppressedAt d m gx gy x y ≡ cond b (keptAt (d .width) m gx gy (y * d .width + x)) plusZero

@@ -10,7 +10,7 @@ use mir.Syntax.{w8}
 use mir.Val.{ofZ}
 use Rattle.rules.specs.Sums.{plusZero}
 use Rattle.rules.specs.Sector.{Offset, sectorOf, neighbours}
-use Rattle.rules.specs.Suppression.{keeps}
+use Rattle.rules.specs.Suppression.{floats, keeps}
 
 -- a component of an offset, compared as the code does it: by its bits
 abbrev is : ℤ → ℕ → Bool
@@ -32,7 +32,7 @@ unfoldable pub keptAt : ℕ → List Float → List ℤ → List ℤ → ℕ →
 keptAt w magnitudes gx gy i =
     let m = getD magnitudes i nan in
     let o = neighbours (sectorOf (getD gx i (pos 0)) (getD gy i (pos 0))) .0 in
-    cond (keeps m (firstAt w magnitudes i o) (secondAt w magnitudes i o)) m plusZero
+    cond (keeps floats m (firstAt w magnitudes i o) (secondAt w magnitudes i o)) m plusZero
 
 -- and in column x of an inner row that begins at `start`
 unfoldable pub rowAt : ℕ → List Float → List ℤ → List ℤ → ℕ → ℕ → Float
