@@ -1,5 +1,8 @@
 // The stages between the refusals and the clearing: each public call in turn, over parts of the scratch that are width times height long.
 use filters::gaussian::gaussian_blur;
+use gradient::components::sobel_gradients;
+use gradient::magnitude::gradient_magnitude;
+use gradient::suppression::non_maximum_suppression;
 use hysteresis::map;
 use hysteresis::slice;
 use hysteresis::start;
@@ -10,9 +13,6 @@ use rules::Thresholds;
 use scratch::clear_stages;
 use scratch::clear_walk;
 use scratch::count_of;
-use sobel::sobel_gradients;
-use suppression::gradient_magnitude;
-use suppression::non_maximum_suppression;
 ghost use mathlib.Core.Path.{_≡_};
 ghost use Rattle.rules.specs.Refusals.{first, runRows};
 ghost use Rattle.canny.specs.Lent.{scratch, accepted, Run, Suppressed, Walkable, Walked};

@@ -1,13 +1,13 @@
 // Gradient, sector, magnitude and suppression for C.
 use crate::border::LAST_MODE;
 use crate::border::REFUSED_BORDER;
+use gradient::components::sobel_gradients;
+use gradient::magnitude::gradient_magnitude;
+use gradient::suppression::non_maximum_suppression;
+use pixel::root::magnitude_of;
+use pixel::sector::sector;
 use rules::Size;
 use rules::codes::mode_of;
-use sobel::sobel_gradients;
-use suppression::gradient_magnitude;
-use suppression::magnitude_of;
-use suppression::non_maximum_suppression;
-use suppression::sector;
 ghost use mathlib.Core.Path.{_≡_};
 ghost use Rattle.rules.specs.Calls as Calls;
 ghost use Rattle.rules.specs.Root.{magnitudeOf};

@@ -18,7 +18,7 @@ use Rattle.rules.specs.Median.{medianAt, windowAt, sorted, insert, occur
 use Rattle.rules.specs.Gradient.{gradientAt, gradientTerm, sumZ}
 use Rattle.rules.specs.Root.{magnitudeOf, rootOf, nearRoot, wholeRoot, sobelByte, leastFrom}
 use Rattle.rules.specs.Sector.{sectorOf, neighbours}
-use Rattle.rules.specs.Suppression.{suppressedAt}
+use Rattle.rules.specs.Suppression.{suppressedBy, suppressedAt}
 use Rattle.rules.specs.Walk.{state, atLeast, started, classed, class, sliced, takes, taken, pop, looks, visit, look, unusable}
 use Rattle.rules.specs.Refusals.{Rule, first, Scratch, sideRow, oneSideRow, countRow, weightRow, thresholdRow, orderRow}
 use Rattle.rules.specs.Refusals.{kernelRows, separableRows, blurRows, boxRows, plainRows, medianRows, gradientRows, magnitudeRows}
@@ -355,7 +355,7 @@ suppressed =
     ∷ []
 
 suppressed-hold : Hold suppressed
-unfolding nonMaximumSuppression suppressedAt sectorOf neighbours le ofInt ofBits toBits tabulate
+unfolding nonMaximumSuppression suppressedAt suppressedBy sectorOf neighbours le ofInt ofBits toBits tabulate
 suppressed-hold = refl
 
 -- ---- walks
@@ -631,7 +631,7 @@ runs =
     ∷ []
 
 runs-hold : Hold runs
-unfolding blurredOf componentOf magnitudesOf suppressedOf suppressedAt edgesOf endOf countOf runEdges canny separableAt kernelSum kernelTerm sampleAt orderedSum toByte add mul ofInt ofBits gradientAt gradientTerm sumZ magnitudeAt magnitudeOf rootOf nearRoot wholeRoot odd sectorOf neighbours afterStart started classed class sliced taken pop looks visit look le lt anyBelow tally tabulate toBits
+unfolding blurredOf componentOf magnitudesOf suppressedOf suppressedBy suppressedAt edgesOf endOf countOf runEdges canny separableAt kernelSum kernelTerm sampleAt orderedSum toByte add mul ofInt ofBits gradientAt gradientTerm sumZ magnitudeAt magnitudeOf rootOf nearRoot wholeRoot odd sectorOf neighbours afterStart started classed class sliced taken pop looks visit look le lt anyBelow tally tabulate toBits
 runs-hold = refl
 
 -- ---- frame files
@@ -697,7 +697,7 @@ frames =
     ∷ []
 
 frames-hold : Hold frames
-unfolding blurredOf componentOf magnitudesOf suppressedOf suppressedAt edgesOf endOf countOf runEdges canny separableAt kernelSum kernelTerm sampleAt orderedSum toByte add mul ofInt ofBits gradientAt gradientTerm sumZ magnitudeAt magnitudeOf rootOf nearRoot wholeRoot odd sectorOf neighbours afterStart started classed class sliced taken pop looks visit look le lt anyBelow tally tabulate breach frameTaps framePixels decimalBy decimal refusedText edgesText rowsText runText printout
+unfolding blurredOf componentOf magnitudesOf suppressedOf suppressedBy suppressedAt edgesOf endOf countOf runEdges canny separableAt kernelSum kernelTerm sampleAt orderedSum toByte add mul ofInt ofBits gradientAt gradientTerm sumZ magnitudeAt magnitudeOf rootOf nearRoot wholeRoot odd sectorOf neighbours afterStart started classed class sliced taken pop looks visit look le lt anyBelow tally tabulate breach frameTaps framePixels decimalBy decimal refusedText edgesText rowsText runText printout
 frames-hold = refl
 
 -- ---- THE LIST OF SLIPS, by subject

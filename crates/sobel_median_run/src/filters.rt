@@ -3,8 +3,8 @@
 use crate::case;
 use cases::count;
 use cases::wide;
+use gradient::sobel::SobelFilter;
 use median::MedianFilter;
-use sobel::SobelFilter;
 ghost use lib.ListN.{length};
 ghost use mathlib.Core.Path.{_≡_};
 

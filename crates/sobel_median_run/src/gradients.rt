@@ -2,8 +2,8 @@
 // compared.
 use crate::case;
 use cases::wide;
+use gradient::components::sobel_gradients;
 use rules::BorderMode;
-use sobel::sobel_gradients;
 
 pub(crate) fn run(v: &[u32; 80]) {
     let pixels = case::bytes_at(v, case::PIXELS);

@@ -37,5 +37,5 @@ fn line(v: &[u32; 80]) {
 }
 
 fn byte(s: u32, wanted: u32) {
-    report::number(b"", sobel::sobel_byte(s) as u64, wide(wanted));
+    report::number(b"", pixel::byte::sobel_byte(s) as u64, wide(wanted));
 }

@@ -26,7 +26,7 @@ pub(crate) fn every() -> u64 {
     let mut count = 0u64;
     let mut s = 1u32;
     while s < 65025 {
-        if nearest(s, report::bits(suppression::magnitude_of(s))) {
+        if nearest(s, report::bits(pixel::root::magnitude_of(s))) {
             count += 1;
         }
         s += 1;
@@ -39,7 +39,7 @@ pub(crate) fn guesses() -> u64 {
     let mut count = 0u64;
     let mut s = 0u32;
     while s < 65026 {
-        if magnitude::guess_holds(s) {
+        if pixel::root::guess_holds(s) {
             count += 1;
         }
         s += 1;

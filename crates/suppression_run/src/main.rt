@@ -37,12 +37,12 @@ fn line(case: &[u32; 80]) {
 }
 
 fn sector(x: u32, y: u32, wanted: u32) {
-    let got = suppression::sector(signed(x), signed(y));
+    let got = pixel::sector::sector(signed(x), signed(y));
     report::number(b"", got as u64, wide(wanted));
 }
 
 fn magnitude_of(s: u32, wanted: u32) {
-    report::float(b"", suppression::magnitude_of(s), wanted);
+    report::float(b"", pixel::root::magnitude_of(s), wanted);
 }
 
 fn nearest_of_all(wanted: u32) {

@@ -24,7 +24,7 @@ pub(crate) fn magnitude(case: &[u32; 80]) {
     let gx = numbers_at(case, 7);
     let gy = numbers_at(case, 15);
     let mut out = floats_at(case, 23);
-    let got = suppression::gradient_magnitude(&gx[0..n], &gy[0..m], size, &mut out[0..k]);
+    let got = gradient::magnitude::gradient_magnitude(&gx[0..n], &gy[0..m], size, &mut out[0..k]);
     left(got, case[6], &out, case, 34);
 }
 
@@ -40,7 +40,7 @@ pub(crate) fn suppression(case: &[u32; 80]) {
     let gy = [signed(case[20]); 9];
     let magnitude = floats_at(case, 8);
     let mut out = floats_at(case, 21);
-    let got = suppression::non_maximum_suppression(
+    let got = gradient::suppression::non_maximum_suppression(
         &magnitude[0..n],
         &gx[0..m],
         &gy[0..k],

@@ -1,9 +1,0 @@
--- `square_of` meets its contract: at 32 bits no square of a component is lost. Assumes nothing.
-use Rattle.rules.proofs.Sizes.{wide-fits, square-fits}
-use Rattle.magnitude.proofs.Components.{square-cast, square-is}
-use Rattle.magnitude.proofs.square_of.Statement.{statement}
-use Rattle.magnitude.proofs.square_of.Tie as tie
-
-pub square-of-spec : {M : Type 1} → statement M
-square-of-spec =
-    tie.close (tie.spec (λ c. wide-fits (c .fits .g)) (λ c. square-fits (c .fits .g)) (λ c. square-cast (c .fits .g)) (λ c. square-is (c .fits .g)))

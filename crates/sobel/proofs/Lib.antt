@@ -1,3 +1,0 @@
--- Laws about this crate's code that several of its proofs cite.
-pub mod Pixels
-pub mod Bytes

@@ -1,3 +1,0 @@
--- What this crate's private functions require of their arguments, and what they hold on the way.
-pub mod Nine
-pub mod Bytes
