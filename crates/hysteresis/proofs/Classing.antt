@@ -1,4 +1,4 @@
--- The two passes of a start are the definition's one, and it leaves the other places at 0. Assumes nothing.
+-- The two passes of a start are the definition's one, over any two tests, and it leaves the other places at 0. Assumes nothing.
 use Prim.Native.Nat.{ℕ, zero, suc, _≤_, _<_}
 use native.Mathlib.Omega.{arith}
 use native.Mathlib.Numerals.{add-one}
@@ -8,9 +8,9 @@ use mathlib.Core.List.{List}
 use lib.Dec.{eqb}
 use lib.ListN.{length, getD, set}
 use lib.Seq.{getD-set-other}
-use Rattle.rules.specs.Picture.{tabulate, filled}
+use Rattle.rules.specs.Picture.{tabulate, cleared}
 use Rattle.rules.specs.Walk.{State, state, has, class, classed, started}
-use Rattle.starting.specs.Split.{markOf, put, stacked}
+use Rattle.hysteresis.specs.Split.{markOf, marked, put, stacked}
 use Rattle.rules.proofs.Fill.{fill-more, filled-at}
 
 -- no more are pending than were looked at
@@ -40,30 +40,30 @@ strong-only false true = refl
 strong-only false false = refl
 
 module _ (hi lo : ℕ → Bool) (marks stack : List ℕ) where
-  abbrev marked : ℕ → List ℕ
-  marked n = filled n (λ i. markOf (hi i) (lo i)) marks
-
   -- the two passes so far are the definition's one
-  in-two : (n : ℕ) → n ≤ length marks → classed hi lo n (state marks stack 0) ≡ (let s = stacked hi n stack in state (marked n) (s .0) (s .1))
+  in-two : (n : ℕ) → n ≤ length marks
+      → classed hi lo n (state marks stack 0) ≡ (let s = stacked hi n stack in state (marked hi lo n marks) (s .0) (s .1))
   unfolding classed class stacked put tabulate
   in-two zero h = refl
   in-two (suc n) h = rw (in-two n (omega arith), ← more) (one (hi n) (stacked hi n stack))
     where
-      more : set (marked n) n (markOf (hi n) (lo n)) ≡ marked (suc n)
-      more = rw add-one at (fill-more n (λ i. markOf (hi i) (lo i)) marks (marked n) _ h refl refl)
+      more : set (marked hi lo n marks) n (markOf (hi n) (lo n)) ≡ marked hi lo (suc n) marks
+      more = rw add-one at (fill-more n (λ i. markOf (hi i) (lo i)) marks (marked hi lo n marks) _ h refl refl)
 
       one : (b : Bool) (s : List ℕ × ℕ)
-          → class b (lo n) n (state (marked n) (s .0) (s .1)) ≡ state (set (marked n) n (markOf b (lo n))) (put b n s .0) (put b n s .1)
+          → class b (lo n) n (state (marked hi lo n marks) (s .0) (s .1)) ≡ state (set (marked hi lo n marks) n (markOf b (lo n))) (put b n s .0) (put b n s .1)
       one true s = refl
       one false s = refl
 
-  -- so are the code's, whose second reads the marks of the first
-  pub both-passes : (n p : ℕ) (m s : List ℕ) → n ≤ length marks → m ≡ marked n → (s, p) ≡ stacked (has 2 m) n stack
-      → state m s p ≡ classed hi lo n (state marks stack 0)
-  both-passes n p m s h e f =
-      let strong : (i : ℕ) → i < n → has 2 m i ≡ hi i = λ i l. ap (λ (k : ℕ). eqb k 2) (filled-at n _ marks m 0 i e l) ∙ strong-only (hi i) (lo i) in
-      let t : (s, p) ≡ stacked hi n stack = f ∙ stacked-same (has 2 m) hi n stack strong in
-      rw (in-two n h, ← t, ← e)
+-- so are the code's, whose second reads the marks of the first
+pub both-passes : (hi lo : ℕ → Bool) (marks stack : List ℕ) {n p : ℕ} {m s : List ℕ} → n ≤ length marks → m ≡ marked hi lo n marks
+    → (s, p) ≡ stacked (has 2 m) n (cleared n 0 stack) → state m s p ≡ started hi lo n marks stack
+unfolding started
+both-passes hi lo marks stack {n} {p} {m} {s} h e f =
+    let o = cleared n 0 stack in
+    let strong : (i : ℕ) → i < n → has 2 m i ≡ hi i = λ i l. ap (λ (k : ℕ). eqb k 2) (filled-at n _ marks m 0 i e l) ∙ strong-only (hi i) (lo i) in
+    let t : (s, p) ≡ stacked hi n o = f ∙ stacked-same (has 2 m) hi n o strong in
+    rw (in-two hi lo marks o n h, ← t, ← e)
 
 -- ---- places from the pending count on hold 0 (01.Walk.5)
 

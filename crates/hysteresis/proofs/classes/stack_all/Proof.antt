@@ -6,10 +6,10 @@ use Prim.Native.Nat.{_-_, _≤_}
 use mathlib.Core.Path.{_≡_, ap, _∙_}
 use lib.ListN.{length}
 use Rattle.rules.specs.Walk.{has}
-use Rattle.starting.specs.Split.{put, stacked}
-use Rattle.starting.proofs.Classing.{few-stacked}
-use Rattle.starting.proofs.stack_all.Statement.{statement}
-use Rattle.starting.proofs.stack_all.Tie as tie
+use Rattle.hysteresis.specs.Split.{put, stacked}
+use Rattle.hysteresis.proofs.Classing.{few-stacked}
+use Rattle.hysteresis.proofs.classes.stack_all.Statement.{statement}
+use Rattle.hysteresis.proofs.classes.stack_all.Tie as tie
 
 abbrev Inv-loop : tie.InvT-loop
 Inv-loop marks stack₀ n pending₀ i₀ stack pending i =

@@ -4,9 +4,9 @@ use native.Mathlib.Omega.{arith}
 use Prim.Native.Nat.{_-_}
 use Rattle.rules.specs.Walk.{atLeast}
 use Rattle.rules.proofs.Fill.{Filling, filling-start, filling-more, filling-end}
-use Rattle.starting.specs.Split.{markOf}
-use Rattle.starting.proofs.mark_all.Statement.{statement}
-use Rattle.starting.proofs.mark_all.Tie as tie
+use Rattle.hysteresis.specs.Split.{markOf}
+use Rattle.hysteresis.proofs.classes.mark_all.Statement.{statement}
+use Rattle.hysteresis.proofs.classes.mark_all.Tie as tie
 
 abbrev Inv-loop : tie.InvT-loop
 Inv-loop magnitudes thresholds marks₀ n i₀ marks i =

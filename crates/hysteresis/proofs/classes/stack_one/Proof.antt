@@ -1,9 +1,9 @@
 -- `stack_one` meets its contract, test by test. Assumes nothing.
 use borrow.Author.Needs.{needs}
 use borrow.Author.Tests.{eq-eqb, ne-eqb}
-use Rattle.starting.specs.Split.{put}
-use Rattle.starting.proofs.stack_one.Statement.{statement}
-use Rattle.starting.proofs.stack_one.Tie as tie
+use Rattle.hysteresis.specs.Split.{put}
+use Rattle.hysteresis.proofs.classes.stack_one.Statement.{statement}
+use Rattle.hysteresis.proofs.classes.stack_one.Tie as tie
 
 returns : tie.Need-returns
 unfolding put

@@ -1,6 +1,6 @@
 -- `mark_of` meets its contract, test by test. Assumes nothing.
-use Rattle.starting.proofs.mark_of.Statement.{statement}
-use Rattle.starting.proofs.mark_of.Tie as tie
+use Rattle.hysteresis.proofs.classes.mark_of.Statement.{statement}
+use Rattle.hysteresis.proofs.classes.mark_of.Tie as tie
 
 returns : tie.Need-returns
 returns c = rw (c .if1 .taken)
