@@ -14,8 +14,8 @@ use sobel::sobel_gradients;
 use suppression::gradient_magnitude;
 use suppression::non_maximum_suppression;
 ghost use mathlib.Core.Path.{_≡_};
-ghost use Rattle.rules.specs.Refusals.{first, runRows};
-ghost use Rattle.canny.specs.Lent.{scratch, accepted, Run, Suppressed, Walkable, Walked};
+ghost use Rattle.rules.specs.Refusals.{first, scratch, runRows};
+ghost use Rattle.canny.specs.Lent.{accepted, Run, Suppressed, Walkable, Walked};
 
 // Blur, gradient, magnitude and suppression: the suppressed magnitudes are left in `work`.
 fn suppress(

@@ -1,20 +1,20 @@
-// Rows of the table of refusals as tests (01.Refusal.2 to 01.Refusal.6), for the calls that have them.
-use crate::MAX_SIDE;
-use crate::MAX_THRESHOLD;
-use crate::Size;
+// Rows of the table of refusals as tests (01.Refusal.2 to 01.Refusal.6), for the calls whose tables share them.
+use rules::MAX_SIDE;
+use rules::MAX_THRESHOLD;
+use rules::Size;
 ghost use mathlib.Core.Path.{_≡_};
 ghost use lib.Ieee.Scale.{finite};
 ghost use Rattle.rules.specs.Refusals.{sideRow, countRow, weightRow, badThreshold};
 
 // Row 1: a side is over the limit.
-pub fn side_over(size: Size) -> bool
+pub(crate) fn side_over(size: Size) -> bool
     ensures { λ r. ⌜ r ≡ sideRow size .applies ⌝ }
 {
     (MAX_SIDE < size.width) | (MAX_SIDE < size.height)
 }
 
 // Row 3: a size is zero, even or too large.
-pub fn bad_count(most: usize, n: usize) -> bool
+pub(crate) fn bad_count(most: usize, n: usize) -> bool
     ensures { λ r. ⌜ r ≡ countRow most n .applies ⌝ }
 {
     (n == 0) | ((n % 2 == 0) | (most < n))
@@ -28,7 +28,7 @@ fn is_finite(v: f32) -> bool
 }
 
 // Row 4: a weight is infinite or NaN.
-pub fn bad_weight(weights: &[f32]) -> bool
+pub(crate) fn bad_weight(weights: &[f32]) -> bool
     ensures { λ r. ⌜ r ≡ weightRow (now (weights .entry)) .applies ⌝ }
 {
     let mut k = 0;
@@ -42,7 +42,7 @@ pub fn bad_weight(weights: &[f32]) -> bool
 }
 
 // Row 5, of one threshold. A NaN is not below infinity; an infinity fails one of the other two comparisons.
-pub fn bad_threshold(t: f32) -> bool
+pub(crate) fn bad_threshold(t: f32) -> bool
     ensures { λ r. ⌜ r ≡ badThreshold t ⌝ }
 {
     let infinity = f32::from_bits(0x7f80_0000);

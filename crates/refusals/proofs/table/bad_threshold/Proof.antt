@@ -2,9 +2,9 @@
 use mathlib.Core.Path.{_≡_, refl}
 use mathlib.Core.Bool.{true, false, not, _||_}
 use lib.Ieee.{Float, nan, inf, fin, binary32, lt, ofBits, ofFields, ofInt, round, odd, units, span, climb, size, nanBits}
 use Rattle.rules.specs.Refusals.{badThreshold}
-use Rattle.rules.proofs.table.bad_threshold.Statement.{statement}
-use Rattle.rules.proofs.table.bad_threshold.Tie as tie
+use Rattle.refusals.proofs.table.bad_threshold.Statement.{statement}
+use Rattle.refusals.proofs.table.bad_threshold.Tie as tie
 
 threshold-test : (t : Float) → (not (lt t (ofBits binary32 0x7f80_0000)) || (lt t (ofBits binary32 0) || lt (ofBits binary32 0x437f_0000) t)) ≡ badThreshold t
 unfolding lt ofBits ofFields ofInt round odd units span climb size

@@ -8,10 +8,10 @@ use denote.Ref.{now}
 use lib.ListN.{length, getD}
 use lib.Ieee.{nan}
 use lib.Ieee.Scale.{finite}
 use Rattle.rules.specs.Picture.{anyBelow}
 use Rattle.rules.proofs.Tests.{any-more, some-any}
-use Rattle.rules.proofs.table.bad_weight.Statement.{statement}
-use Rattle.rules.proofs.table.bad_weight.Tie as tie
+use Rattle.refusals.proofs.table.bad_weight.Statement.{statement}
+use Rattle.refusals.proofs.table.bad_weight.Tie as tie
 
 abbrev Inv-loop : tie.InvT-loop
 Inv-loop weights k₀ k = (k ≤ length weights) × (anyBelow (λ j. not (finite (getD weights j nan))) k ≡ false)

@@ -1,8 +1,8 @@
 -- `is_finite` meets its contract: a comparison with an infinity computes at each kind of float. Assumes nothing.
 use lib.Ieee.{nanBits}
 use Rattle.rules.proofs.Floats.{between}
-use Rattle.rules.proofs.table.is_finite.Statement.{statement}
-use Rattle.rules.proofs.table.is_finite.Tie as tie
+use Rattle.refusals.proofs.table.is_finite.Statement.{statement}
+use Rattle.refusals.proofs.table.is_finite.Tie as tie
 
 float-from-bits-infinity : tie.Need-float-from-bits-infinity
 unfolding nanBits
