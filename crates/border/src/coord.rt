@@ -1,7 +1,8 @@
 // The border rules: where a coordinate of a side is read (01.Border.1 to 01.Border.5).
+use refusals::filter::of_coord;
+use rules::ACCEPTED;
 use rules::BorderMode;
 use rules::Coord;
-use rules::MAX_SIDE;
 ghost use mathlib.Core.Path.{_≡_};
 ghost use Prim.Native.Nat.{_≤_, _<_, _*_};
 ghost use lib.IntN.{pos, _-ℤ_};
@@ -73,10 +74,7 @@ fn resolve(c: i64, side: usize, border: BorderMode) -> Coord
 pub fn resolve_coord(coord: i64, side: usize, border: BorderMode) -> Coord
     ensures { λ r. ⌜ coordSays r ≡ resolveCoord coord side border ⌝ }
 {
-    if side == 0 {
-        return Coord::Refused;
-    }
-    if MAX_SIDE < side {
+    if of_coord(side) != ACCEPTED {
         return Coord::Refused;
     }
     resolve(coord, side, border)

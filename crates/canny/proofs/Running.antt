@@ -1,17 +1,16 @@
--- A whole run: its table with one row for the shortest buffer, what acceptance grants the stages, and what they leave together. Assumes nothing.
+-- A whole run: what it answers by its number, what acceptance grants the stages, and what they leave together. Assumes nothing.
 use mathlib.Core.Path.{_≡_, refl, sym, ap, _∙_}
-use mathlib.Core.Bool.{Bool, true, false, cond}
 use mathlib.Core.List.{List}
 use Prim.Native.Nat.{ℕ, _-_, _≤_, min}
 use native.Mathlib.Omega.{arith}
-use lib.Dec.{ltb, eqb}
+use lib.Dec.{eqb}
 use lib.ListN.{length, getD, take, drop}
 use lib.IntN.{ℤ, pos}
 use lib.Ieee.{Float, nan}
-use borrow.Author.Tests.{ltb-true, ltb-false, lt-ltb, le-ltb, ne-eqb}
+use borrow.Author.Tests.{ne-eqb}
 use Rattle.rules.specs.Picture.{area, tabulate, filled, cleared, tally}
 use Rattle.rules.specs.Sums.{plusZero}
-use Rattle.rules.specs.Refusals.{first, Scratch, runRows, startRows}
+use Rattle.rules.specs.Refusals.{first, Scratch, scratch, runRows, startRows}
 use Rattle.rules.specs.Run.{suppressedOf, edgesOf, runEdges, countOf, canny, Roomy}
 use Rattle.rules.specs.declared.Size.{Size}
 use Rattle.rules.specs.declared.Thresholds.{Thresholds}
@@ -19,38 +18,12 @@ use Rattle.rules.proofs.Fill.{length-tabulate, length-filled, filled-at, take-f
 use Rattle.rules.proofs.Rows.{off, input-off, room-off, rows}
 use Rattle.rules.proofs.Tallies.{tally-eq}
 use Rattle.scratch.specs.Cleared.{clearedTo}
-use Rattle.canny.specs.Lent.{scratch, roomRows, accepted, Run, Suppressed, Walkable, Walked}
-
--- ---- eight rows for room are one, of the shortest
-
--- the number that a row for room of this length answers, before the number of the rows behind it
-abbrev lacks : ℕ → ℕ → ℕ → ℕ
-lacks n room rest = cond (ltb room n) 7 rest
-
-short : (n a b : ℕ) → lacks n (min a b) 0 ≡ lacks n a (lacks n b 0)
-short n a b = go (ltb a n) (ltb b n) refl refl
-  where
-    go : (p q : Bool) → ltb a n ≡ p → ltb b n ≡ q → lacks n (min a b) 0 ≡ cond {A = ℕ} p 7 (cond q 7 0)
-    go true q e f = let l = ltb-true a n e in rw (lt-ltb (min a b) n (omega arith))
-    go false true e f = let l = ltb-true b n f in rw (lt-ltb (min a b) n (omega arith))
-    go false false e f = let l = ltb-false a n e in let m = ltb-false b n f in rw (le-ltb (min a b) n (omega arith))
-
-abbrev shortest : Scratch → List ℕ → ℕ
-shortest s out =
-    min (length (s .work)) (min (length (s .magnitude)) (min (length (s .gx)) (min (length (s .gy)) (min (length (s .blurred))
-    (min (length (s .marks)) (min (length (s .stack)) (length out)))))))
-
-room-number : (d : Size) (pixels : List ℕ) (taps : List Float) (t : Thresholds) (s : Scratch) (out : List ℕ)
-    → first (roomRows d pixels taps t (shortest s out)) ≡ first (runRows d pixels taps t s out)
-room-number d pixels taps t s out = simp short
+use Rattle.canny.specs.Lent.{accepted, Run, Suppressed, Walkable, Walked}
 
 -- ---- what the whole answers
 
-module _ (d : Size) (pixels : List ℕ) (taps : List Float) (t : Thresholds) (s : Scratch) (out : List ℕ) {room r : ℕ} (least : room ≡ shortest s out)
-    (answer : r ≡ first (roomRows d pixels taps t room)) where
-  pub number : r ≡ first (runRows d pixels taps t s out)
-  number = answer ∙ rw least (room-number d pixels taps t s out)
-
+module _ (d : Size) (pixels : List ℕ) (taps : List Float) (t : Thresholds) (s : Scratch) (out : List ℕ) {r : ℕ}
+    (number : r ≡ first (runRows d pixels taps t s out)) where
   pub refused : (r ≡ 0 → ⊥) → (record { refusal = r; count = 0 }, (out, s)) ≡ canny d pixels taps t s out
   unfolding canny
   refused n = rw (← number, ne-eqb r 0 n)

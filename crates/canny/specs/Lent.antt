@@ -2,32 +2,16 @@
 use Prim.Native.Nat.{ℕ, _≤_}
 use mathlib.Core.Path.{_≡_}
 use mathlib.Core.Bool.{false}
-use mathlib.Core.List.{List, [], _∷_}
-use lib.Dec.{ltb}
+use mathlib.Core.List.{List}
 use lib.ListN.{length, getD, take, drop}
 use lib.IntN.{ℤ}
 use lib.Ieee.{Float, nan}
 use Rattle.rules.specs.Limits.{maxTaps}
 use Rattle.rules.specs.Picture.{area, filled}
-use Rattle.rules.specs.Refusals.{Rule, Scratch, rule, first, sideRow, inputRow, countRow, weightRow, thresholdRow, orderRow, startRows}
+use Rattle.rules.specs.Refusals.{Scratch, first, sideRow, countRow, weightRow, startRows}
 use Rattle.rules.specs.Run.{suppressedOf, edgesOf, runEdges, countOf, clearedScratch}
 use Rattle.rules.specs.declared.Size.{Size}
 use Rattle.rules.specs.declared.Thresholds.{Thresholds}
-
-abbrev pub scratch : List Float → List Float → List ℤ → List ℤ → List ℕ → List ℕ → List ℕ → Scratch
-scratch w m x y b k s = record { work = w; magnitude = m; gx = x; gy = y; blurred = b; marks = k; stack = s }
-
--- the rows of a run whose shortest lent buffer has `room` entries
-abbrev pub roomRows : Size → List ℕ → List Float → Thresholds → ℕ → List Rule
-roomRows d pixels taps t room =
-    sideRow d
-    ∷ inputRow d pixels
-    ∷ countRow maxTaps (length taps)
-    ∷ weightRow taps
-    ∷ thresholdRow t
-    ∷ orderRow t
-    ∷ rule 7 (ltb room (area d))
-    ∷ []
 
 -- what the stages up to suppression know
 pub record Run (d : Size) (pixels : List ℕ) (taps work magnitude : List Float) (gx gy : List ℤ) (blurred : List ℕ) : Type 0 where

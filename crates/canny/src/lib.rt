@@ -1,18 +1,16 @@
 // The whole run: blur, gradient, magnitude, suppression, a walk to its end and the map, over lent scratch that is zero afterwards
 // (01.Walk.12, 01.Walk.13).
-mod refusals;
 mod stages;
 
-use refusals::of_run;
-use refusals::shortest;
+use refusals::run::of_run;
 use rules::ACCEPTED;
 use rules::Counted;
 use rules::Size;
 use rules::Thresholds;
 use stages::run;
 ghost use mathlib.Core.Path.{_≡_};
+ghost use Rattle.rules.specs.Refusals.{scratch};
 ghost use Rattle.rules.specs.Run as Run;
-ghost use Rattle.canny.specs.Lent.{scratch};
 
 // Finds the edges of a byte picture: 255 in `map` where there is one, else 0; the answer counts them. The seven buffers between are
 // scratch of at least width times height entries each, 18 bytes a pixel.
@@ -37,17 +35,20 @@ pub fn canny(
         (now (map .entry))
         ⌝ }
 {
-    let room = shortest(
-        work.len(),
-        magnitude.len(),
-        gx.len(),
-        gy.len(),
-        blurred.len(),
-        marks.len(),
-        stack.len(),
-        map.len(),
+    let refusal = of_run(
+        pixels,
+        size,
+        taps,
+        thresholds,
+        work,
+        magnitude,
+        gx,
+        gy,
+        blurred,
+        marks,
+        stack,
+        map,
     );
-    let refusal = of_run(pixels, size, taps, thresholds, room);
     if refusal != ACCEPTED {
         return Counted { refusal, count: 0 };
     }

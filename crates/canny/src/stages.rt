@@ -14,8 +14,8 @@ use scratch::clear_stages;
 use scratch::clear_walk;
 use scratch::count_of;
 ghost use mathlib.Core.Path.{_≡_};
-ghost use Rattle.rules.specs.Refusals.{first, runRows};
-ghost use Rattle.canny.specs.Lent.{scratch, accepted, Run, Suppressed, Walkable, Walked};
+ghost use Rattle.rules.specs.Refusals.{first, scratch, runRows};
+ghost use Rattle.canny.specs.Lent.{accepted, Run, Suppressed, Walkable, Walked};
 
 // Blur, gradient, magnitude and suppression: the suppressed magnitudes are left in `work`.
 fn suppress(

@@ -13,7 +13,7 @@ use lib.Ieee.{Float, nan}
 use lib.Ieee.Scale.{finite}
 use borrow.Author.Tests.{eqb-true, eqb-false, eq-eqb, ne-eqb, not-false}
 use Rattle.rules.specs.Picture.{area, anyBelow, tally}
-use Rattle.rules.specs.Walk.{State, state, mark, has, count, last, pop, look, visit, looks, taken, sliced, takes, unusable, atLeast, edge}
+use Rattle.rules.specs.Walk.{State, state, mark, has, count, last, pop, look, visit, looks, taken, started, sliced, takes, unusable, edge}
 use Rattle.rules.specs.Refusals.{first, badThreshold, startRows, sliceRows, mapRows}
 use Rattle.rules.specs.Calls as Calls
 use Rattle.rules.specs.Calls.{walkOf, afterStart, afterSlice, sliceTakes}
@@ -29,10 +29,9 @@ use Rattle.rules.proofs.Rows.{Sides, rows}
 use Rattle.rules.proofs.Tallies.{tally-all, tally-le, tally-less, tally-zero}
 use Rattle.rules.proofs.Paths.{way-in, joined-tells, joined-count, same-count}
 use Rattle.rules.proofs.Demand.{start-kept}
-use Rattle.starting.proofs.Numbers.{Startable, startable}
-use Rattle.hysteresis.specs.Demand.{Held, Call, GoesOn, AllGoOn, spentBy, afterAll, spent, Progress, heldAtStart, Demand-3}
+use Rattle.hysteresis.specs.Demand.{Held, Call, GoesOn, AllGoOn, spentBy, afterAll, spent, Progress, hi, lo, heldAtStart, Demand-3}
 use Rattle.hysteresis.specs.Demand.Call.{slice, map, start}
-use Rattle.hysteresis.proofs.Numbers.{usable-of}
+use Rattle.hysteresis.proofs.Numbers.{usable-of, Startable, startable}
 use Rattle.hysteresis.proofs.Floats.{lower}
 use Rattle.hysteresis.proofs.Invariant.{room, last-in, last-two, last-joined}
 use Rattle.hysteresis.proofs.Steps.{Inv, take-keeps, take-finishes, start-holds}
@@ -192,53 +191,29 @@ module _ (d : Size) (hi lo : ℕ → Bool) where
       let r = calls-keep cs s k h e (rw l at (g .1)) in
       record { now = r .now; is = rw l (r .is); inv = r .inv; finished = rw l (omega (arith, r .finished)) }
 
--- ---- an accepted start
+-- ---- a start by any two tests, of which the higher implies the lower
 
--- both answers carry the number
-either-way : {A : Type 0} (f : A → ℕ) (c : Bool) (x y : A) (n : ℕ) → f x ≡ n → f y ≡ n → f (cond c x y) ≡ n
-either-way f true x y n p q = p
-either-way f false x y n p q = q
-
-module _ (d : Size) (t : Thresholds) (magnitudes : List Float) (marks stack : List ℕ) (e : Calls.start d t magnitudes marks stack .0 .refusal ≡ 0) where
-  abbrev hi : ℕ → Bool
-  hi = atLeast (t .high) magnitudes
-
-  abbrev lo : ℕ → Bool
-  lo = atLeast (t .low) magnitudes
-
+module _ (d : Size) (hi lo : ℕ → Bool) (above : (q : ℕ) → T (hi q) → T (lo q)) (marks stack : List ℕ) (m : area d ≤ length marks) (s : area d ≤ length stack) where
   abbrev begun : State
-  begun = afterStart d t magnitudes marks stack
+  begun = started hi lo (area d) marks stack
 
-  number : first (startRows d t magnitudes marks stack) ≡ 0
-  unfolding Calls.start
-  number = sym (either-way (λ (a : Started × (List ℕ × List ℕ)). a .0 .refusal) (eqb (first (startRows d t magnitudes marks stack)) 0) _ _ _ refl refl) ∙ e
+  holds : Inv d hi lo begun × (done d hi lo begun ≡ 0)
+  holds = start-holds d hi lo above marks stack m s
 
-  ok : Startable d t magnitudes marks stack
-  ok = startable d t magnitudes marks stack number
+  after : (calls : List Call) → AllGoOn calls (heldOf d begun) → After d hi lo calls begun 0
+  after calls g = calls-keep d hi lo calls begun 0 (holds .0) (omega (arith, holds .1)) g
 
-  held-is : heldAtStart d t magnitudes marks stack ≡ heldOf d begun
-  unfolding Calls.start
-  held-is = rw (eq-eqb _ 0 number)
-
-  is-finite : (x : Float) → badThreshold x ≡ false → finite x ≡ true
-  is-finite x b = not-false _ (neither (not (finite x)) _ b .0)
-
-  above : (q : ℕ) → T (hi q) → T (lo q)
-  above q z =
-      is-true (lower (t .low) (t .high) (getD magnitudes q nan) (is-finite (t .low) (ok .low)) (is-finite (t .high) (ok .high)) (ok .ordered) (true-is _ z))
-
-  after : (calls : List Call) → AllGoOn calls (heldAtStart d t magnitudes marks stack) → After d hi lo calls begun 0
-  unfolding afterStart
-  after calls g =
-      let h = start-holds d hi lo above marks stack (ok .marks-long) (ok .stack-long) in
-      calls-keep d hi lo calls begun 0 (h .0) (omega (arith, h .1)) (rw held-is at g)
+  come : Sides d → (J : ℕ → Bool) → Tells d hi lo J → (calls : List Call) → AllGoOn calls (heldOf d begun)
+      → Progress d hi lo (tally J (area d)) (spent calls (heldOf d begun)) (afterAll calls (heldOf d begun))
+  come sides J tells calls g =
+      let a = after calls g in
+      rw (a .is, same-count d hi lo J _ tells (joined-tells d hi lo), ← joined-count d hi lo)
+      (progress d hi lo (a .inv) sides _ (omega (arith, a .finished)))
 
   -- a slice with the budget width * height + 1 ends the walk, and then mark 3 tells exactly the joined pixels, whatever the buffers held
-  pub end-tells : let s = sliced d (area d + 1) begun in (s .pending ≡ 0) × Tells d hi lo (has 3 (s .marks))
-  unfolding afterStart
-  end-tells =
-      let h = start-holds d hi lo above marks stack (ok .marks-long) (ok .stack-long) in
-      let a = slice-keeps d hi lo (area d + 1) begun 0 (h .0) (omega (arith, h .1)) in
+  pub started-tells : let t = sliced d (area d + 1) begun in (t .pending ≡ 0) × Tells d hi lo (has 3 (t .marks))
+  started-tells =
+      let a = slice-keeps d hi lo (area d + 1) begun 0 (holds .0) (omega (arith, holds .1)) in
       let p = over d hi lo (a .inv) (omega (arith, a .finished, tally-all (joined d hi lo) (area d), joined-count d hi lo)) in (
         p,
         record {
@@ -247,26 +222,62 @@ module _ (d : Size) (t : Thresholds) (magnitudes : List Float) (marks stack : Li
         },
       )
 
+  takes-are : (calls : List Call) (b : ℕ) → AllGoOn calls (heldOf d begun)
+      → let h = afterAll calls (heldOf d begun) in
+      let r = Calls.slice (h .walk) b (h .marks) (h .stack) in
+      count 3 (r .1 .0) (area d) ≡ count 3 (h .marks) (area d) + r .0 .takes
+  unfolding Calls.slice
+  takes-are calls b g = let a = after calls g in rw (a .is) (call-keeps d hi lo b (a .now) _ (a .inv) (a .finished) .made-is)
+
+-- ---- an accepted start by magnitudes
+
+-- both answers carry the number
+either-way : {A : Type 0} (f : A → ℕ) (c : Bool) (x y : A) (n : ℕ) → f x ≡ n → f y ≡ n → f (cond c x y) ≡ n
+either-way f true x y n p q = p
+either-way f false x y n p q = q
+
+module _ (d : Size) (t : Thresholds) (magnitudes : List Float) (marks stack : List ℕ) (e : Calls.start d t magnitudes marks stack .0 .refusal ≡ 0) where
+  number : first (startRows d t magnitudes marks stack) ≡ 0
+  unfolding Calls.start
+  number = sym (either-way (λ (a : Started × (List ℕ × List ℕ)). a .0 .refusal) (eqb (first (startRows d t magnitudes marks stack)) 0) _ _ _ refl refl) ∙ e
+
+  ok : Startable d t magnitudes marks stack
+  ok = startable d t magnitudes marks stack number
+
+  held-is : heldAtStart d t magnitudes marks stack ≡ heldOf d (afterStart d t magnitudes marks stack)
+  unfolding Calls.start
+  held-is = rw (eq-eqb _ 0 number)
+
+  is-finite : (x : Float) → badThreshold x ≡ false → finite x ≡ true
+  is-finite x b = not-false _ (neither (not (finite x)) _ b .0)
+
+  above : (q : ℕ) → T (hi d t magnitudes marks stack q) → T (lo d t magnitudes marks stack q)
+  above q z =
+      is-true (lower (t .low) (t .high) (getD magnitudes q nan) (is-finite (t .low) (ok .low)) (is-finite (t .high) (ok .high)) (ok .ordered) (true-is _ z))
+
+  pub end-tells : let s = sliced d (area d + 1) (afterStart d t magnitudes marks stack) in
+      (s .pending ≡ 0) × Tells d (hi d t magnitudes marks stack) (lo d t magnitudes marks stack) (has 3 (s .marks))
+  unfolding afterStart
+  end-tells = started-tells d _ _ above marks stack (ok .marks-long) (ok .stack-long)
+
+  progress-is : (J : ℕ → Bool) → Tells d (hi d t magnitudes marks stack) (lo d t magnitudes marks stack) J
+      → (calls : List Call) → AllGoOn calls (heldAtStart d t magnitudes marks stack)
+      → let h = heldAtStart d t magnitudes marks stack in
+      Progress d (hi d t magnitudes marks stack) (lo d t magnitudes marks stack) (tally J (area d)) (spent calls h) (afterAll calls h)
+  unfolding afterStart
+  progress-is J tells calls g = rw held-is (come d _ _ above marks stack (ok .marks-long) (ok .stack-long) (ok .sides) J tells calls (rw held-is at g))
+
   -- ON EVERY STATE THAT A START AND CALLS AFTER IT LEFT, A SLICE'S TAKES ARE ITS NEW MARKS 3
   pub takes-finish : (calls : List Call) (b : ℕ) → AllGoOn calls (heldAtStart d t magnitudes marks stack)
       → let h = afterAll calls (heldAtStart d t magnitudes marks stack) in
       let a = Calls.slice (h .walk) b (h .marks) (h .stack) in
       count 3 (a .1 .0) (area d) ≡ count 3 (h .marks) (area d) + a .0 .takes
-  unfolding Calls.slice
-  takes-finish calls b g =
-      let a = after calls g in
-      rw (held-is, a .is) (call-keeps d hi lo b (a .now) _ (a .inv) (a .finished) .made-is)
+  unfolding afterStart
+  takes-finish calls b g = rw held-is (takes-are d _ _ above marks stack (ok .marks-long) (ok .stack-long) calls b (rw held-is at g))
 
 -- DEMAND 3 holds of every start
 pub demand-3 : (d : Size) (t : Thresholds) (magnitudes : List Float) (marks stack : List ℕ) → Demand-3 d t magnitudes marks stack
-demand-3 d t magnitudes marks stack =
-    record {
-      told = (joined d _ _, joined-tells d _ _);
-      progress = λ e J tells calls g.
-          let a = after d t magnitudes marks stack e calls g in
-          rw (held-is d t magnitudes marks stack e, a .is, same-count d _ _ J _ tells (joined-tells d _ _), ← joined-count d _ _)
-          (progress d _ _ (a .inv) (ok d t magnitudes marks stack e .sides) _ (omega (arith, a .finished)));
-    }
+demand-3 d t magnitudes marks stack = record { told = (joined d _ _, joined-tells d _ _); progress = progress-is d t magnitudes marks stack }
 
 -- ---- the takes on every state, forged ones included
 

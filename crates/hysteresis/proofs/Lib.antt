@@ -1,4 +1,5 @@
 -- The laws of the walk, from the places around a pixel up to demand 3.
+pub mod Classing
 pub mod Places
 pub mod Visits
 pub mod Fits

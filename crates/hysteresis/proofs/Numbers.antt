@@ -5,18 +5,18 @@ use mathlib.Core.Bool.{false}
 use mathlib.Core.List.{List}
 use lib.Dec.{leb, ltb}
 use lib.ListN.{length, getD}
+use lib.Ieee.{Float, lt}
 use borrow.Author.Tests.{ltb-false, leb-false, lt-leb, le-ltb}
 use Rattle.rules.specs.Limits.{maxSide}
 use Rattle.rules.specs.Picture.{area, anyBelow}
 use Rattle.rules.specs.Walk.{State, mark, count, unusable}
-use Rattle.rules.specs.Refusals.{first, sliceRows, mapRows}
+use Rattle.rules.specs.Refusals.{first, badThreshold, startRows, sliceRows, mapRows}
 use Rattle.rules.specs.declared.Size.{Size}
+use Rattle.rules.specs.declared.Thresholds.{Thresholds}
 use Rattle.rules.proofs.Bools.{neither}
 use Rattle.rules.proofs.Tests.{any-none, none-any}
-use Rattle.rules.proofs.Rows.{off, side-off, room-off}
+use Rattle.rules.proofs.Rows.{Sides, off, side-off, input-off, room-off}
 use Rattle.hysteresis.specs.Fit.{Fit}
-
--- the search down a table, passed on to the whole run, whose crate has a module of the name `refusals`
 
 -- ---- row 9 as facts
 
@@ -72,3 +72,27 @@ pub mappable : (d : Size) (s : State) (out : List ℕ) → first (mapRows d s ou
 mappable d s out e =
     let p = off (mapRows d s out) tt e in
     record { small = side-off d (p .0) .small; marks-long = room-off d (s .marks) (p .1 .0); out-long = room-off d out (p .1 .1 .1 .0) }
+
+pub record Startable (d : Size) (t : Thresholds) (magnitudes : List Float) (marks stack : List ℕ) : Type 0 where
+  pub sides : Sides d
+  pub long : length magnitudes ≡ area d
+  pub low : badThreshold (t .low) ≡ false
+  pub high : badThreshold (t .high) ≡ false
+  pub ordered : lt (t .high) (t .low) ≡ false
+  pub marks-long : area d ≤ length marks
+  pub stack-long : area d ≤ length stack
+
+pub startable : (d : Size) (t : Thresholds) (magnitudes : List Float) (marks stack : List ℕ)
+    → first (startRows d t magnitudes marks stack) ≡ 0 → Startable d t magnitudes marks stack
+startable d t magnitudes marks stack e =
+    let p = off (startRows d t magnitudes marks stack) tt e in
+    let b = neither (badThreshold (t .low)) _ (p .1 .1 .0) in
+    record {
+      sides = side-off d (p .0);
+      long = input-off d magnitudes (p .1 .0);
+      low = b .0;
+      high = b .1;
+      ordered = p .1 .1 .1 .0;
+      marks-long = room-off d marks (p .1 .1 .1 .1 .0);
+      stack-long = room-off d stack (p .1 .1 .1 .1 .1 .0);
+    }

@@ -1,22 +1,62 @@
-// The walk of canny.rs, which joins weak pixels to strong ones: slices of a budget, and the map; the start is passed on from the crate that
-// has it. The state travels by value; the marks and the stack are lent beside it (01.Walk).
+// The walk of canny.rs, which joins weak pixels to strong ones: its start, slices of a budget, and the map. The state travels by value; the
+// marks and the stack are lent beside it (01.Walk).
+mod classes;
 mod takes;
 
 use refusals::walk::of_map;
 use refusals::walk::of_slice;
+use refusals::walk::of_start;
 use rules::ACCEPTED;
 use rules::EDGE;
 use rules::MARK_FINISHED;
 use rules::Mapped;
 use rules::Size;
 use rules::Sliced;
+use rules::Started;
+use rules::Thresholds;
 use rules::Walk;
-pub use starting::start;
 ghost use mathlib.Core.Path.{_≡_};
 ghost use Prim.Native.Nat.{_≤_};
 ghost use lib.ListN.{length};
 ghost use Rattle.rules.specs.Walk.{mapped};
 ghost use Rattle.rules.specs.Calls as Calls;
+
+// Starts a walk: each pixel's magnitude is classed by the thresholds, and the strong ones are pending.
+pub fn start(
+    magnitudes: &[f32],
+    size: Size,
+    thresholds: Thresholds,
+    marks: &mut [u8],
+    stack: &mut [u32],
+) -> Started
+    ensures { λ r. ⌜
+        (r, (now (marks .exit), now (stack .exit)))
+        ≡ Calls.start size thresholds (now (magnitudes .entry)) (now (marks .entry)) (now (stack .entry))
+        ⌝ }
+{
+    let refusal = of_start(magnitudes, size, thresholds, marks, stack);
+    if refusal != ACCEPTED {
+        return Started {
+            refusal,
+            walk: Walk {
+                width: 0,
+                height: 0,
+                pending: 0,
+            },
+        };
+    }
+    let n = size.width * size.height;
+    classes::mark_all(magnitudes, thresholds, marks, n);
+    let pending = classes::pend(marks, stack, n);
+    Started {
+        refusal: ACCEPTED,
+        walk: Walk {
+            width: size.width,
+            height: size.height,
+            pending,
+        },
+    }
+}
 
 // A slice: takes until its budget is spent or nothing is pending.
 pub fn slice(walk: Walk, budget: usize, marks: &mut [u8], stack: &mut [u32]) -> Sliced

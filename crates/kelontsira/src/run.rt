@@ -6,7 +6,7 @@ use rules::Size;
 use rules::Thresholds;
 ghost use mathlib.Core.Path.{_≡_};
 ghost use Rattle.rules.specs.Run as Run;
-ghost use Rattle.canny.specs.Lent.{scratch};
+ghost use Rattle.rules.specs.Refusals.{scratch};
 ghost use Rattle.kelontsira.specs.Exports.{sides, between, countSays, runSays};
 
 // The count through a lent number, which a refusal leaves.

@@ -1,14 +1,11 @@
 // The median of a square window, by counts of the 256 byte values that move along a row: one column out, one in.
 use border::coord::place;
 use border::picture::read;
-use refusals::filter::of_picture;
+use refusals::filter::of_median;
 use rules::ACCEPTED;
 use rules::BorderMode;
 use rules::MAX_WINDOW;
-use rules::REFUSED_COUNT;
-use rules::REFUSED_ROOM;
 use rules::Size;
-use rules::table::bad_count;
 ghost use mathlib.Core.Path.{_≡_};
 ghost use Prim.Native.Nat.{_+_, _-_, _*_, _/_, _≤_, _<_};
 ghost use lib.Dec.{ltb};
@@ -307,17 +304,11 @@ impl MedianFilter {
     pub fn apply(self, pixels: &[u8], size: Size, out: &mut [u8]) -> u8
         ensures { λ r. ⌜ (r, now (out .exit)) ≡ median size (self .size) (self .border) (now (pixels .entry)) (now (out .entry)) ⌝ }
     {
-        let refusal = of_picture(pixels, size);
-        if refusal != ACCEPTED {
-            return refusal;
-        }
         let window = self.size;
         let border = self.border;
-        if bad_count(MAX_WINDOW, window) {
-            return REFUSED_COUNT;
-        }
-        if out.len() < pixels.len() {
-            return REFUSED_ROOM;
+        let refusal = of_median(pixels, size, window, out);
+        if refusal != ACCEPTED {
+            return refusal;
         }
         median_rows(pixels, size, border, window, out);
         ACCEPTED

@@ -1,6 +1,6 @@
 -- Calls that test their picture first: what the number of `of_picture` says of the whole table, and of the picture. Assumes nothing.
 use mathlib.Core.Path.{_≡_, sym, _∙_}
-use mathlib.Core.Bool.{Bool, true, false, cond}
+use mathlib.Core.Bool.{true, false}
 use mathlib.Core.List.{List, _∷_}
 use Prim.Native.Nat.{ℕ, _<_, _≤_}
 use native.Mathlib.Omega.{arith}
@@ -11,7 +11,7 @@ use Rattle.rules.specs.Refusals.{Rule, first, sideRow, inputRow, roomRow}
 use Rattle.rules.specs.Calls.{answered}
 use Rattle.rules.specs.declared.Size.{Size}
 use Rattle.rules.proofs.Answers.{refused-is}
-use Rattle.rules.proofs.Rows.{off, side-off, input-off}
+use Rattle.rules.proofs.Rows.{off, front-refuses, side-off, input-off}
 use Rattle.refusals.specs.Rows.{Picture, pictureRows}
 
 -- a picture that neither of its rows refuses
@@ -24,12 +24,7 @@ pub record Passed (d : Size) (pixels : List ℕ) : Type 0 where
 module _ (d : Size) (pixels : List ℕ) (r : ℕ) (e : r ≡ first (pictureRows d pixels)) where
   -- one of its rows applies, whatever rows follow
   pub early : (rest : List Rule) → (r ≡ 0 → ⊥) → r ≡ first (sideRow d ∷ inputRow d pixels ∷ rest)
-  early rest n = go (sideRow d .applies) (inputRow d pixels .applies) e
-    where
-      go : (a b : Bool) → r ≡ cond a 1 (cond b 2 0) → r ≡ cond a 1 (cond b 2 (first rest))
-      go true b q = q
-      go false true q = q
-      go false false q = absurd (n q)
+  early rest n = front-refuses (pictureRows d pixels) rest e n
 
   pub early-is : {A : Type 0} (rest : List Rule) (done kept : A) → (r ≡ 0 → ⊥) → (r, kept) ≡ answered (first (sideRow d ∷ inputRow d pixels ∷ rest)) done kept
   early-is rest done kept n = refused-is _ r (early rest n) done kept n

@@ -1,9 +1,12 @@
-// The refusal numbers of the filters' calls. Rows of one number are tested together, since their order cannot be seen.
+// The refusal numbers of the filters' calls and of the resolver. Rows of one number are tested together, since their order cannot be seen.
+use crate::table::bad_count;
+use crate::table::bad_weight;
 use rules::ACCEPTED;
 use rules::Kernel;
 use rules::MAX_KERNEL;
 use rules::MAX_SIDE;
 use rules::MAX_TAPS;
+use rules::MAX_WINDOW;
 use rules::REFUSED_COUNT;
 use rules::REFUSED_INPUT;
 use rules::REFUSED_ROOM;
@@ -11,11 +14,19 @@ use rules::REFUSED_SIDE;
 use rules::REFUSED_WEIGHT;
 use rules::SeparableKernel;
 use rules::Size;
-use rules::table::bad_count;
-use rules::table::bad_weight;
 ghost use mathlib.Core.Path.{_≡_};
-ghost use Rattle.rules.specs.Refusals.{first, plainRows, kernelRows, separableRows};
+ghost use Rattle.rules.specs.Refusals.{first, coordRows, plainRows, medianRows, kernelRows, separableRows};
 ghost use Rattle.refusals.specs.Rows.{pictureRows, badKernel, badTaps};
+
+// The resolver, which has one side.
+pub fn of_coord(side: usize) -> u8
+    ensures { λ r. ⌜ r ≡ first (coordRows side) ⌝ }
+{
+    if (side == 0) | (MAX_SIDE < side) {
+        return REFUSED_SIDE;
+    }
+    ACCEPTED
+}
 
 // 1: a side over the limit; 2: a picture that is not width times height long. Every filter's call begins with these.
 pub fn of_picture(pixels: &[u8], size: Size) -> u8
@@ -40,6 +51,22 @@ pub fn of_plain(pixels: &[u8], size: Size, out: &[u8]) -> u8
     let refusal = of_picture(pixels, size);
     if refusal != ACCEPTED {
         return refusal;
+    }
+    if out.len() < pixels.len() {
+        return REFUSED_ROOM;
+    }
+    ACCEPTED
+}
+
+pub fn of_median(pixels: &[u8], size: Size, window: usize, out: &[u8]) -> u8
+    ensures { λ r. ⌜ r ≡ first (medianRows size window (now (pixels .entry)) (now (out .entry))) ⌝ }
+{
+    let refusal = of_picture(pixels, size);
+    if refusal != ACCEPTED {
+        return refusal;
+    }
+    if bad_count(MAX_WINDOW, window) {
+        return REFUSED_COUNT;
     }
     if out.len() < pixels.len() {
         return REFUSED_ROOM;

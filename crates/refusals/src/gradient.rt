@@ -1,11 +1,11 @@
 // The refusal numbers of sobel_gradients, of gradient_magnitude and of non_maximum_suppression.
 use crate::filter::of_picture;
+use crate::table::side_over;
 use rules::ACCEPTED;
 use rules::REFUSED_INPUT;
 use rules::REFUSED_ROOM;
 use rules::REFUSED_SIDE;
 use rules::Size;
-use rules::table::side_over;
 ghost use mathlib.Core.Path.{_≡_};
 ghost use Rattle.rules.specs.Refusals.{first, gradientRows, magnitudeRows, suppressionRows};
 

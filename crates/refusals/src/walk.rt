@@ -1,4 +1,6 @@
 // The refusal numbers of the walk's three calls.
+use crate::table::bad_threshold;
+use crate::table::side_over;
 use rules::ACCEPTED;
 use rules::MARK_FINISHED;
 use rules::MARK_WEAK;
@@ -12,8 +14,6 @@ use rules::REFUSED_STATE;
 use rules::REFUSED_THRESHOLD;
 use rules::Size;
 use rules::Thresholds;
-use rules::table::bad_threshold;
-use rules::table::side_over;
 use scratch::count_of;
 ghost use mathlib.Core.Path.{_≡_};
 ghost use Prim.Native.Nat.{_*_, _≤_};

@@ -1,7 +1,7 @@
 -- Tables of refusals: a number 0 says that no row applies, and each row then gives its fact; and how the code goes down a table. Assumes nothing.
 use mathlib.Core.Path.{_≡_, refl, sym, ap, _∙_}
 use mathlib.Core.Bool.{Bool, true, false, not, _&&_, _||_, cond}
-use mathlib.Core.List.{List, [], _∷_}
+use mathlib.Core.List.{List, [], _∷_, _++_}
 use Prim.Native.Nat.{ℕ, _*_, _%_, _<_, _≤_}
 use native.Mathlib.Omega.{arith}
 use native.Mathlib.Nat.{mul-le-mul}
@@ -42,6 +42,19 @@ off (r ∷ rs) t e =
 pub none : (rs : List Rule) → Off rs → first rs ≡ 0
 none [] o = refl
 none (r ∷ rs) o = rw (o .0) (none rs (o .1))
+
+-- a table in two parts: the number of the first part, where one of its rows applies, else that of the second
+pub front-refuses : (rs rest : List Rule) {r : ℕ} → r ≡ first rs → (r ≡ 0 → ⊥) → r ≡ first (rs ++ rest)
+front-refuses [] rest e n = absurd (n e)
+front-refuses (x ∷ rs) rest {r} e n = go (x .applies) e (λ q. front-refuses rs rest q n)
+  where
+    go : (b : Bool) → r ≡ cond b (x .number) (first rs) → (r ≡ first rs → r ≡ first (rs ++ rest)) → r ≡ cond b (x .number) (first (rs ++ rest))
+    go true q k = q
+    go false q k = k q
+
+pub front-passes : (rs rest : List Rule) → Off rs → first (rs ++ rest) ≡ first rest
+front-passes [] rest o = refl
+front-passes (x ∷ rs) rest o = rw (o .0) (front-passes rs rest (o .1))
 
 -- ---- what a row that does not apply says
 

@@ -135,9 +135,16 @@ pub record Scratch : Type 0 where
   pub marks : List ℕ
   pub stack : List ℕ
 
+abbrev pub scratch : List Float → List Float → List ℤ → List ℤ → List ℕ → List ℕ → List ℕ → Scratch
+scratch w m x y b k s = record { work = w; magnitude = m; gx = x; gy = y; blurred = b; marks = k; stack = s }
+
 -- room for the scratch and the map
 abbrev pub scratchRows : Size → Scratch → List ℕ → List Rule
 scratchRows d s out = roomRow d (s .work) ∷ roomRow d (s .magnitude) ∷ roomRow d (s .gx) ∷ roomRow d (s .gy) ∷ roomRow d (s .blurred) ∷ roomRow d (s .marks) ∷ roomRow d (s .stack) ∷ roomRow d out ∷ []
 
+-- the run's other rows, in front of those that ask for room
+abbrev pub runFront : Size → List ℕ → List Float → Thresholds → List Rule → List Rule
+runFront d pixels taps t rest = sideRow d ∷ inputRow d pixels ∷ countRow maxTaps (length taps) ∷ weightRow taps ∷ thresholdRow t ∷ orderRow t ∷ rest
+
 abbrev pub runRows : Size → List ℕ → List Float → Thresholds → Scratch → List ℕ → List Rule
-runRows d pixels taps t s out = sideRow d ∷ inputRow d pixels ∷ countRow maxTaps (length taps) ∷ weightRow taps ∷ thresholdRow t ∷ orderRow t ∷ scratchRows d s out
+runRows d pixels taps t s out = runFront d pixels taps t (scratchRows d s out)

@@ -1,6 +1,5 @@
 // The shared types, limits and refusal numbers of document 01. The rules themselves are in specs/, their laws in proofs/.
 pub mod codes;
-pub mod table;
 
 // What a sample outside the picture reads as (01.Border.3 to 01.Border.5).
 pub enum BorderMode {

@@ -3,10 +3,10 @@ use borrow.Author.Needs.{needs}
 use denote.Ref.{now}
 use native.Mathlib.Omega.{arith}
 use mathlib.Core.Path.{_∙_}
-use Rattle.rules.specs.Refusals.{Scratch}
+use Rattle.rules.specs.Refusals.{Scratch, scratch}
 use Rattle.rules.specs.Run.{Roomy}
 use Rattle.rules.proofs.Rows.{side-off}
-use Rattle.canny.specs.Lent.{scratch, Run}
+use Rattle.canny.specs.Lent.{Run}
 use Rattle.canny.proofs.Running.{granted, rooms, walkable, ran}
 use Rattle.canny.proofs.stages.run.Statement.{statement}
 use Rattle.canny.proofs.stages.run.Tie as tie

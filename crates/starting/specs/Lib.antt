@@ -1,2 +1,0 @@
--- What this crate's loops promise.
-pub mod Split
