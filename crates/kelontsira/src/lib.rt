@@ -2,6 +2,6 @@
 // a slice is a pointer and a length there. Nothing is worked out here: each export equals the call it wraps.
 mod border;
 pub mod filtering;
-pub mod gradient;
+pub mod gradients;
 pub mod run;
 pub mod walk;

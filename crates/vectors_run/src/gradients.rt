@@ -4,10 +4,10 @@ use crate::case::LIST;
 use crate::lists;
 use crate::lists::LEFT_FLOAT;
 use crate::lists::LEFT_NUMBER;
-use kelontsira::gradient::kelontsira_gradient_magnitude;
-use kelontsira::gradient::kelontsira_non_maximum_suppression;
-use kelontsira::gradient::kelontsira_sector;
-use kelontsira::gradient::kelontsira_sobel_gradients;
+use kelontsira::gradients::kelontsira_gradient_magnitude;
+use kelontsira::gradients::kelontsira_non_maximum_suppression;
+use kelontsira::gradients::kelontsira_sector;
+use kelontsira::gradients::kelontsira_sobel_gradients;
 
 pub(crate) fn replay(case: Case, one: &[u32], two: &[u32], three: &[u32], wanted: &[u32]) -> bool {
     let stage = case.stage;

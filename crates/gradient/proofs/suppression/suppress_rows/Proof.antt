@@ -22,6 +22,10 @@ Inv-loop magnitude gx gy size out₀ width y₀ start₀ out y start =
 abbrev μ-loop : tie.MeasureT-loop
 μ-loop magnitude gx gy size out₀ width y₀ start₀ out y start = size .height - y
 
+-- the start, as the loop sees it
+abbrev start : tie.At-loop Inv-loop μ-loop → tie.Start Inv-loop μ-loop
+start c = c .before .before .before .before .before .before .before
+
 -- the first row is in the picture, and +0
 top : (s : tie.Start Inv-loop μ-loop) → s .args .size .width ≤ area (s .args .size)
 top s = let d = s .args .size in omega (arith, row-in 0 (d .width) (d .height) (omega arith))
@@ -35,16 +39,16 @@ opened c =
     (c .clear-floats .ensures)
 
 -- row y ends within the picture, and the picture within the buffer
-fits : (c : tie.At-loop Inv-loop μ-loop) → let d = c .before .before .before .before .before .before .before .args .size in
+fits : (c : tie.At-loop Inv-loop μ-loop) → let d = start c .args .size in
     (c .loop .start + d .width ≤ area d) × (area d ≤ length (c .loop .out))
 fits c =
-    let s = c .before .before .before .before .before .before .before in
+    let s = start c in
     let d = s .args .size in
     let i = c .loop .inv in
     (omega (arith, i .2, row-in (c .loop .y) (d .width) (d .height) (i .1)), omega (arith, i .3 .same, c .before .before .out .given, s .pre .1))
 
 -- and is as long as a row
-long : (c : tie.At-loop Inv-loop μ-loop) → let w = c .before .before .before .before .before .before .before .args .size .width in
+long : (c : tie.At-loop Inv-loop μ-loop) → let w = start c .args .size .width in
     length (midOf (c .loop .start) (c .loop .start + w - c .loop .start) (c .loop .out)) ≡ w
 long c = part-length (c .loop .out) (c .loop .start) _ _ refl (omega (arith, fits c))
 
@@ -56,7 +60,7 @@ loop-holds c =
 suppress-row-requires : tie.Need-suppress-row-requires Inv-loop μ-loop
 suppress-row-requires c κs =
     let l = c .before .before .before in
-    let p = l .before .before .before .before .before .before .before .pre in
+    let p = start l .pre in
     has-rows (l .loop .y) (p .0) (l .loop .inv .2) (long l) (l .loop .inv .0) (c .before .if1 .taken) (p .2)
 
 loop-again : tie.Need-loop-again Inv-loop μ-loop
@@ -67,7 +71,7 @@ loop-again c =
     let h = fits l in (
       search needs,
       t .if1 .taken,
-      omega (arith, i .2, add-mul (l .loop .y) 1 (l .before .before .before .before .before .before .before .args .size .width)),
+      omega (arith, i .2, add-mul (l .loop .y) 1 (start l .args .size .width)),
       put-row _ _ _ _ (l .loop .y) _ (i .2) (i .1) (omega (arith, i .3 .same)) (i .3)
           (inner-row _ _ _ _ (l .loop .y) _ (i .2) _ _ (long l) (i .0) (t .if1 .taken) (c .before .before .suppress-row .ensures)),
     )
@@ -77,7 +81,7 @@ returns c =
     let t = c .before .before .before .before in
     let l = t .before .before in
     let i = l .loop .inv in
-    let s = l .before .before .before .before .before .before .before in
+    let s = start l in
     let d = s .args .size in
     let h = fits l in
     let e : l .loop .y + 1 ≡ d .height = omega (arith, i .1, t .if1 .left) in

@@ -2,8 +2,8 @@
 use borrow.Author.Needs.{needs}
 use mir.Syntax.{w16}
 use mir.ValLaws.{toZ-ofZ}
-use Rattle.kelontsira.proofs.gradient.kelontsira_sector.Statement.{statement}
-use Rattle.kelontsira.proofs.gradient.kelontsira_sector.Tie as tie
+use Rattle.kelontsira.proofs.gradients.kelontsira_sector.Statement.{statement}
+use Rattle.kelontsira.proofs.gradients.kelontsira_sector.Tie as tie
 
 returns : tie.Need-returns
 returns c = let s = c .before in rw (toZ-ofZ w16 (s .args .gx) (s .fits .gx), toZ-ofZ w16 (s .args .gy) (s .fits .gy)) at (c .sector .ensures)
