@@ -8,7 +8,8 @@ use lib.Ieee.{Float}
 use Rattle.rules.specs.Picture.{area}
 use Rattle.rules.specs.Refusals.{first, magnitudeRows}
 use Rattle.rules.specs.declared.Size.{Size}
-use Rattle.rules.proofs.Rows.{Sides, off, side-off, input-off, room-off}
+use Rattle.rules.specs.Accepted.{Sides}
+use Rattle.rules.proofs.Rows.{off, side-off, input-off, room-off}
 
 pub record Components (d : Size) (gx gy : List ℤ) (magnitude : List Float) : Type 0 where
   pub sides : Sides d
