@@ -69,12 +69,12 @@ module _ (d : Size) (pixels : List ℕ) where
     -- of a picture that is not refused
     pub read-in : (x y : ℕ) → readIn pixels d x y ≡ readAt pixels d x y
     unfolding readIn
-    read-in x y = rw (le-ltb maxSide (d .width) (p .width-fits), le-ltb maxSide (d .height) (p .height-fits), input-fits d pixels (p .long))
+    read-in x y = rw (le-ltb maxSide (d .width) (p .sides .width), le-ltb maxSide (d .height) (p .sides .height), input-fits d pixels (p .long))
 
     -- the sample at two coordinates
     pub read-is : (mode : BorderMode) (cx cy : ℤ) → 0 < d .width → 0 < d .height
         → readIn pixels d (placed mode cx (d .width)) (placed mode cy (d .height)) ≡ byteSample pixels d mode cx cy
     unfolding sampleAt
     read-is mode cx cy w h =
-        rw (read-in, placed-is mode cx (d .width) w (p .width-fits), placed-is mode cy (d .height) h (p .height-fits))
+        rw (read-in, placed-is mode cx (d .width) w (p .sides .width), placed-is mode cy (d .height) h (p .sides .height))
         (at-places (resolved mode cx (d .width)) (resolved mode cy (d .height)) (resolved-within mode cx (d .width) w) (resolved-within mode cy (d .height) h))

@@ -3,11 +3,11 @@ use mathlib.Core.Path.{_≡_, refl, sym, ap, _∙_}
 use mathlib.Core.List.{List, _++_, append-assoc}
 use Prim.Native.Nat.{ℕ, suc, _+_, _-_, _*_, _<_, _≤_}
 use native.Mathlib.Numerals.{add-one}
-use native.Mathlib.Nat.{add-zero, add-mul, mul-comm, mul-le-mul}
+use native.Mathlib.Nat.{add-zero, add-mul, mul-comm}
 use native.Mathlib.Omega.{arith}
 use lib.ListN.{length, getD, take, drop, set, length-append, length-take, length-drop, length-set, take-append-drop}
 use lib.Seq.{drop-cons, set-at, take-at, drop-at, drop-drop}
-use Rattle.rules.specs.Limits.{maxSide}
+use Rattle.rules.specs.Limits.{maxArea}
 use Rattle.rules.specs.Picture.{tabulate, filled, area}
 use Rattle.rules.specs.declared.Size.{Size}
 use Rattle.rules.proofs.Grid.{row-in}
@@ -100,10 +100,10 @@ write-all n g o =
 -- where row y lies
 pub record Row (d : Size) (y : ℕ) : Type 0 where
   pub within : y * d .width + d .width ≤ area d
-  pub small : area d ≤ maxSide * maxSide
+  pub small : area d ≤ maxArea
 
 pub row-of-picture : (d : Size) (pixels : List ℕ) (y : ℕ) → Picture d pixels → y < d .height → Row d y
-row-of-picture d pixels y p h = record { within = row-in y (d .width) (d .height) h; small = mul-le-mul (p .width-fits) (p .height-fits) }
+row-of-picture d pixels y p h = record { within = row-in y (d .width) (d .height) h; small = p .sides .small }
 
 -- THE INVARIANT of a loop over the rows of a picture, before row y
 pub record Rows {A : Type 0} (d : Size) (y : ℕ) (g : ℕ → A) (o l : List A) : Type 0 where

@@ -1,5 +1,5 @@
 -- What an accepted run lends its stages, and what they leave in it.
-use Prim.Native.Nat.{ℕ, _≤_}
+use Prim.Native.Nat.{ℕ}
 use mathlib.Core.Path.{_≡_}
 use mathlib.Core.Bool.{false}
 use mathlib.Core.List.{List}
@@ -8,6 +8,7 @@ use lib.IntN.{ℤ}
 use lib.Ieee.{Float, nan}
 use Rattle.rules.specs.Limits.{maxTaps}
 use Rattle.rules.specs.Picture.{area, filled}
+use Rattle.rules.specs.Accepted.{Input, Room}
 use Rattle.rules.specs.Refusals.{Scratch, first, sideRow, countRow, weightRow, startRows}
 use Rattle.rules.specs.Run.{suppressedOf, edgesOf, runEdges, countOf, clearedScratch}
 use Rattle.rules.specs.declared.Size.{Size}
@@ -16,14 +17,14 @@ use Rattle.rules.specs.declared.Thresholds.{Thresholds}
 -- what the stages up to suppression know
 pub record Run (d : Size) (pixels : List ℕ) (taps work magnitude : List Float) (gx gy : List ℤ) (blurred : List ℕ) : Type 0 where
   pub sides : sideRow d .applies ≡ false
-  pub long : length pixels ≡ area d
+  pub long : Input d pixels
   pub counted : countRow maxTaps (length taps) .applies ≡ false
   pub weighed : weightRow taps .applies ≡ false
-  pub work-room : area d ≤ length work
-  pub magnitude-room : area d ≤ length magnitude
-  pub gx-room : area d ≤ length gx
-  pub gy-room : area d ≤ length gy
-  pub blurred-room : area d ≤ length blurred
+  pub work-room : Room d work
+  pub magnitude-room : Room d magnitude
+  pub gx-room : Room d gx
+  pub gy-room : Room d gy
+  pub blurred-room : Room d blurred
 
 -- and leave: the suppressed magnitudes, and nothing changed past the picture
 pub record Suppressed (d : Size) (pixels : List ℕ) (taps work magnitude : List Float) (gx gy : List ℤ) (blurred : List ℕ)
@@ -37,8 +38,8 @@ pub record Suppressed (d : Size) (pixels : List ℕ) (taps work magnitude : List
 -- what the walk knows
 pub record Walkable (d : Size) (t : Thresholds) (suppressed : List Float) (marks stack out : List ℕ) : Type 0 where
   pub accepted : first (startRows d t (take (area d) suppressed) marks stack) ≡ 0
-  pub long : area d ≤ length suppressed
-  pub room : area d ≤ length out
+  pub long : Room d suppressed
+  pub room : Room d out
 
 -- and leaves
 pub record Walked (d : Size) (t : Thresholds) (suppressed : List Float) (marks stack out marks' stack' out' : List ℕ) : Type 0 where

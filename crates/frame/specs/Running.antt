@@ -22,16 +22,16 @@ unfoldable pub ran : Size → List ℕ → List Float → Thresholds → List �
 ran d pixels taps t out = shown (canny d pixels taps t (freshScratch d) out)
 
 -- the pixels of the largest frame
-abbrev pub maxArea : ℕ
-maxArea = maxFrameSide * maxFrameSide
+abbrev pub maxFrameArea : ℕ
+maxFrameArea = maxFrameSide * maxFrameSide
 
 pub record Sized (d : Size) (map : List ℕ) : Type 0 where
-  pub small : area d ≤ maxArea
-  pub room : maxArea ≤ length map
+  pub small : area d ≤ maxFrameArea
+  pub room : maxFrameArea ≤ length map
 
 -- a file that keeps the layout, its tap count, and a map of as many entries
 pub record Framed (file : List ℕ) (count : ℕ) (map : List ℕ) : Type 0 where
   pub keeps : breach file ≡ false
   pub counted : count ≡ tapCount file
   pub few : count ≤ maxTaps
-  pub room : maxArea ≤ length map
+  pub room : maxFrameArea ≤ length map

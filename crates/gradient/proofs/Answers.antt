@@ -9,13 +9,14 @@ use lib.Ieee.{Float}
 use Rattle.rules.specs.Picture.{area}
 use Rattle.rules.specs.Refusals.{first, sideRow, inputRow, plainRows, gradientRows, magnitudeRows, suppressionRows}
 use Rattle.rules.specs.declared.Size.{Size}
-use Rattle.rules.proofs.Rows.{Sides, off, side-off, input-off, room-off}
+use Rattle.rules.specs.Accepted.{Sides}
+use Rattle.rules.proofs.Rows.{off, side-off, input-off, room-off}
 use Rattle.refusals.specs.Rows.{Picture}
 use Rattle.gradient.specs.Lent.{Pictures}
 
 -- the picture of a call that neither of its first two rows refuses
 picture-fit : {d : Size} {pixels : List ℕ} → sideRow d .applies ≡ false → inputRow d pixels .applies ≡ false → Picture d pixels
-picture-fit {d} {pixels} s i = let p = side-off d s in record { width-fits = p .width; height-fits = p .height; long = input-off d pixels i }
+picture-fit {d} {pixels} s i = record { sides = side-off d s; long = input-off d pixels i }
 
 pub plain-fit : {d : Size} {pixels : List ℕ} {r : ℕ} (out : List ℕ) → r ≡ first (plainRows d pixels out) → r ≡ 0 → Picture d pixels × (area d ≤ length out)
 plain-fit {d} {pixels} out e z =

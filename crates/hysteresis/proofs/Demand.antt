@@ -15,6 +15,7 @@ use borrow.Author.Tests.{eqb-true, eqb-false, eq-eqb, ne-eqb, not-false}
 use Rattle.rules.specs.Picture.{area, anyBelow, tally}
 use Rattle.rules.specs.Walk.{State, state, mark, has, count, last, pop, look, visit, looks, taken, started, sliced, takes, unusable, edge}
 use Rattle.rules.specs.Refusals.{first, badThreshold, startRows, sliceRows, mapRows}
+use Rattle.rules.specs.Accepted.{Sides}
 use Rattle.rules.specs.Calls as Calls
 use Rattle.rules.specs.Calls.{walkOf, afterStart, afterSlice, sliceTakes}
 use Rattle.rules.specs.Joined.{Joined, Way, Tells, joined, joinedCount}
@@ -25,7 +26,7 @@ use Rattle.rules.specs.declared.Walk.{Walk}
 use Rattle.rules.specs.declared.Started.{Started}
 use Rattle.rules.proofs.Bools.{true-is, is-true, neither}
 use Rattle.rules.proofs.Fill.{filled-at}
-use Rattle.rules.proofs.Rows.{Sides, rows}
+use Rattle.rules.proofs.Rows.{rows}
 use Rattle.rules.proofs.Tallies.{tally-all, tally-le, tally-less, tally-zero}
 use Rattle.rules.proofs.Paths.{way-in, joined-tells, joined-count, same-count}
 use Rattle.rules.proofs.Demand.{start-kept}

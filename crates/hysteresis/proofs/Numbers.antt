@@ -1,5 +1,5 @@
 -- What an accepted number says. Assumes nothing.
-use Prim.Native.Nat.{ℕ, _+_, _*_, _≤_, _<_}
+use Prim.Native.Nat.{ℕ, _+_, _≤_, _<_}
 use mathlib.Core.Path.{_≡_}
 use mathlib.Core.Bool.{false}
 use mathlib.Core.List.{List}
@@ -7,7 +7,7 @@ use lib.Dec.{leb, ltb}
 use lib.ListN.{length, getD}
 use lib.Ieee.{Float, lt}
 use borrow.Author.Tests.{ltb-false, leb-false, lt-leb, le-ltb}
-use Rattle.rules.specs.Limits.{maxSide}
+use Rattle.rules.specs.Accepted.{Sides, Input, Room}
 use Rattle.rules.specs.Picture.{area, anyBelow}
 use Rattle.rules.specs.Walk.{State, mark, count, unusable}
 use Rattle.rules.specs.Refusals.{first, badThreshold, startRows, sliceRows, mapRows}
@@ -15,7 +15,7 @@ use Rattle.rules.specs.declared.Size.{Size}
 use Rattle.rules.specs.declared.Thresholds.{Thresholds}
 use Rattle.rules.proofs.Bools.{neither}
 use Rattle.rules.proofs.Tests.{any-none, none-any}
-use Rattle.rules.proofs.Rows.{Sides, off, side-off, input-off, room-off}
+use Rattle.rules.proofs.Rows.{off, side-off, input-off, room-off}
 use Rattle.hysteresis.specs.Fit.{Fit}
 
 -- ---- row 9 as facts
@@ -64,23 +64,23 @@ slice-fit d b s e =
     }
 
 pub record Mappable (d : Size) (s : State) (out : List ℕ) : Type 0 where
-  pub small : area d ≤ maxSide * maxSide
-  pub marks-long : area d ≤ length (s .marks)
-  pub out-long : area d ≤ length out
+  pub sides : Sides d
+  pub marks-long : Room d (s .marks)
+  pub out-long : Room d out
 
 pub mappable : (d : Size) (s : State) (out : List ℕ) → first (mapRows d s out) ≡ 0 → Mappable d s out
 mappable d s out e =
     let p = off (mapRows d s out) tt e in
-    record { small = side-off d (p .0) .small; marks-long = room-off d (s .marks) (p .1 .0); out-long = room-off d out (p .1 .1 .1 .0) }
+    record { sides = side-off d (p .0); marks-long = room-off d (s .marks) (p .1 .0); out-long = room-off d out (p .1 .1 .1 .0) }
 
 pub record Startable (d : Size) (t : Thresholds) (magnitudes : List Float) (marks stack : List ℕ) : Type 0 where
   pub sides : Sides d
-  pub long : length magnitudes ≡ area d
+  pub long : Input d magnitudes
   pub low : badThreshold (t .low) ≡ false
   pub high : badThreshold (t .high) ≡ false
   pub ordered : lt (t .high) (t .low) ≡ false
-  pub marks-long : area d ≤ length marks
-  pub stack-long : area d ≤ length stack
+  pub marks-long : Room d marks
+  pub stack-long : Room d stack
 
 pub startable : (d : Size) (t : Thresholds) (magnitudes : List Float) (marks stack : List ℕ)
     → first (startRows d t magnitudes marks stack) ≡ 0 → Startable d t magnitudes marks stack

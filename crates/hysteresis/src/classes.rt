@@ -6,11 +6,11 @@ use rules::MARK_WEAK;
 use rules::Thresholds;
 use scratch::clear_places;
 ghost use mathlib.Core.Path.{_≡_};
-ghost use Prim.Native.Nat.{_*_, _≤_, _<_};
+ghost use Prim.Native.Nat.{_≤_, _<_};
 ghost use lib.Dec.{eqb};
 ghost use lib.ListN.{length};
 ghost use lib.Ieee as Ieee;
-ghost use Rattle.rules.specs.Limits.{maxSide};
+ghost use Rattle.rules.specs.Limits.{maxArea};
 ghost use Rattle.rules.specs.Picture.{cleared};
 ghost use Rattle.rules.specs.Walk.{has, atLeast};
 ghost use Rattle.hysteresis.specs.Split.{markOf, marked, put, stacked};
@@ -45,7 +45,7 @@ pub(crate) fn mark_all(magnitudes: &[f32], thresholds: Thresholds, marks: &mut [
 
 // Pixel i goes on the stack if its mark says so; how many are pending then.
 fn stack_one(mark: u8, stack: &mut [u32], pending: usize, i: usize) -> usize
-    requires { ⌜ (i < maxSide * maxSide) × (pending < length (now stack)) ⌝ }
+    requires { ⌜ (i < maxArea) × (pending < length (now stack)) ⌝ }
     ensures { λ p. ⌜ (now (stack .exit), p) ≡ put (eqb mark 2) i (now (stack .entry), pending) ⌝ }
 {
     if mark == MARK_PENDING {
@@ -57,7 +57,7 @@ fn stack_one(mark: u8, stack: &mut [u32], pending: usize, i: usize) -> usize
 
 // The pending ones of the first n pixels go on the stack, in row order; how many.
 fn stack_all(marks: &[u8], stack: &mut [u32], n: usize) -> usize
-    requires { ⌜ (n ≤ maxSide * maxSide) × (n ≤ length (now marks)) × (n ≤ length (now stack)) ⌝ }
+    requires { ⌜ (n ≤ maxArea) × (n ≤ length (now marks)) × (n ≤ length (now stack)) ⌝ }
     ensures { λ p. ⌜ (now (stack .exit), p) ≡ stacked (has 2 (now (marks .entry))) n (now (stack .entry)) ⌝ }
 {
     let mut pending = 0;
@@ -71,7 +71,7 @@ fn stack_all(marks: &[u8], stack: &mut [u32], n: usize) -> usize
 
 // The pixels with mark 2 become pending, whatever classed them: the stack's other places are 0.
 pub(crate) fn pend(marks: &[u8], stack: &mut [u32], n: usize) -> usize
-    requires { ⌜ (n ≤ maxSide * maxSide) × (n ≤ length (now marks)) × (n ≤ length (now stack)) ⌝ }
+    requires { ⌜ (n ≤ maxArea) × (n ≤ length (now marks)) × (n ≤ length (now stack)) ⌝ }
     ensures { λ p. ⌜ (now (stack .exit), p) ≡ stacked (has 2 (now (marks .entry))) n (cleared n 0 (now (stack .entry))) ⌝ }
 {
     clear_places(stack, n);

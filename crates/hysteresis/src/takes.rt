@@ -4,9 +4,9 @@ use rules::MARK_PENDING;
 use rules::MARK_WEAK;
 use rules::Size;
 ghost use mathlib.Core.Path.{_≡_};
-ghost use Prim.Native.Nat.{_*_, _<_};
+ghost use Prim.Native.Nat.{_<_};
 ghost use lib.ListN.{length, getD};
-ghost use Rattle.rules.specs.Limits.{maxSide};
+ghost use Rattle.rules.specs.Limits.{maxArea};
 ghost use Rattle.rules.specs.Walk.{state, look, visit, taken, sliced, takes};
 ghost use Rattle.hysteresis.specs.Fit.{Fit};
 ghost use Rattle.hysteresis.specs.Around.{row};
@@ -19,7 +19,7 @@ pub(crate) struct Made {
 
 // Pixel r is looked at: with mark 1 it gets mark 2 and is put on the stack.
 fn look_at(marks: &mut [u8], stack: &mut [u32], pending: usize, r: usize) -> usize
-    requires { ⌜ (r < length (now marks)) × (r < maxSide * maxSide) × (getD (now marks) r 0 ≡ 1 → pending < length (now stack)) ⌝ }
+    requires { ⌜ (r < length (now marks)) × (r < maxArea) × (getD (now marks) r 0 ≡ 1 → pending < length (now stack)) ⌝ }
     ensures { λ p. ⌜ state (now (marks .exit)) (now (stack .exit)) p ≡ look r (state (now (marks .entry)) (now (stack .entry)) pending) ⌝ }
 {
     if marks[r] == MARK_WEAK {
@@ -66,7 +66,7 @@ fn visit_row(
     x: usize,
     ny: usize,
 ) -> usize
-    requires { ⌜ (x < maxSide * maxSide) × Fit size (state (now marks) (now stack) pending) ⌝ }
+    requires { ⌜ (x < maxArea) × Fit size (state (now marks) (now stack) pending) ⌝ }
     ensures { λ p. ⌜ state (now (marks .exit)) (now (stack .exit)) p ≡ row size x ny (state (now (marks .entry)) (now (stack .entry)) pending) ⌝ }
 {
     let left = visit_at(marks, stack, pending, size, x, ny);

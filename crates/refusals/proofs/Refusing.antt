@@ -33,11 +33,10 @@ module _ (d : Size) (pixels : List ℕ) (r : ℕ) (e : r ≡ first (pictureRows 
   pub passed : r ≡ 0 → Passed d pixels
   passed z =
       let o = off (pictureRows d pixels) tt (sym e ∙ z) in
-      let s = side-off d (o .0) in
       record {
         side = o .0;
         input = o .1 .0;
-        picture = record { width-fits = s .width; height-fits = s .height; long = input-off d pixels (o .1 .0) };
+        picture = record { sides = side-off d (o .0); long = input-off d pixels (o .1 .0) };
       }
 
 -- room is tested against the picture's own length

@@ -1,13 +1,11 @@
 -- Rows that many tables share: the two that every filter's begins with, and the rows of one number taken together, since their order
 -- cannot be seen.
-use Prim.Native.Nat.{ℕ, _*_, _≤_}
-use mathlib.Core.Path.{_≡_}
+use Prim.Native.Nat.{ℕ, _*_}
 use mathlib.Core.Bool.{Bool, not, _||_}
 use mathlib.Core.List.{List, [], _∷_}
 use lib.Dec.{eqb}
-use lib.ListN.{length}
-use Rattle.rules.specs.Limits.{maxSide, maxKernel, maxTaps}
-use Rattle.rules.specs.Picture.{area}
+use Rattle.rules.specs.Limits.{maxKernel, maxTaps}
+use Rattle.rules.specs.Accepted.{Sides, Input}
 use Rattle.rules.specs.Refusals.{Rule, sideRow, inputRow, countRow}
 use Rattle.rules.specs.declared.Size.{Size}
 use Rattle.rules.specs.declared.Kernel.{Kernel}
@@ -19,9 +17,8 @@ pictureRows d pixels = sideRow d ∷ inputRow d pixels ∷ []
 
 -- a lent picture of an accepted call: a side of 0 is one too
 pub record Picture (d : Size) (pixels : List ℕ) : Type 0 where
-  pub width-fits : d .width ≤ maxSide
-  pub height-fits : d .height ≤ maxSide
-  pub long : length pixels ≡ area d
+  pub sides : Sides d
+  pub long : Input d pixels
 
 -- ---- rows 3
 

@@ -16,10 +16,10 @@ use rules::Size;
 use rules::Thresholds;
 use scratch::count_of;
 ghost use mathlib.Core.Path.{_≡_};
-ghost use Prim.Native.Nat.{_*_, _≤_};
+ghost use Prim.Native.Nat.{_≤_};
 ghost use lib.Dec.{leb, ltb};
 ghost use lib.ListN.{length, getD};
-ghost use Rattle.rules.specs.Limits.{maxSide};
+ghost use Rattle.rules.specs.Limits.{maxArea};
 ghost use Rattle.rules.specs.Picture.{area, anyBelow};
 ghost use Rattle.rules.specs.Walk.{state, unusable};
 ghost use Rattle.rules.specs.Refusals.{first, startRows, sliceRows, mapRows};
@@ -55,7 +55,7 @@ fn any_above(marks: &[u8], n: usize) -> bool
 
 // Row 9: a state is unusable (01.Walk.10).
 fn unusable_state(marks: &[u8], stack: &[u32], pending: usize, size: Size) -> bool
-    requires { ⌜ (area size ≤ maxSide * maxSide) × (area size ≤ length (now marks)) × (area size ≤ length (now stack)) ⌝ }
+    requires { ⌜ (area size ≤ maxArea) × (area size ≤ length (now marks)) × (area size ≤ length (now stack)) ⌝ }
     ensures { λ r. ⌜ r ≡ unusable size (state (now (marks .entry)) (now (stack .entry)) pending) ⌝ }
 {
     let n = size.width * size.height;

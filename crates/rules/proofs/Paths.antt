@@ -1,4 +1,6 @@
--- The joined pixels: `joined` tells exactly those that a path joins to a seed, and N is one number. Assumes nothing.
+-- Paths over any one test, and the joined pixels: `joined` tells exactly those that a path joins to a seed, and N is one number. A crate
+-- that groups the pixels of a map cites the laws of a way: to be on one way is to touch (`touches-of`, `touch-of`) or to be reached
+-- (`way-keeps`: what is closed under touching holds of all that a way reaches), there and back. Assumes nothing.
 use Prim.Native.Nat.{ℕ, zero, suc, _+_, _/_, _%_, _≤_, _<_, zero-le}
 use native.Mathlib.Omega.{arith}
 use mathlib.Core.Path.{_≡_, refl, sym, ap, _∙_}
@@ -25,19 +27,39 @@ is-near : (a b : ℕ) → Near a b → near a b ≡ true
 is-near a b h = rw (le-leb a (b + 1) (h .0), le-leb b (a + 1) (h .1))
 
 module _ (d : Size) (q r : ℕ) where
-  touch-of : q < area d → r < area d → touches d q r ≡ true → Touch d q r
+  pub touch-of : q < area d → r < area d → touches d q r ≡ true → Touch d q r
   touch-of k l e =
       let p = both (near (q % d .width) (r % d .width)) _ e in
       record { from = k; to = l; columns = near-is _ _ (p .0); rows = near-is _ _ (p .1) }
 
-  touches-of : Touch d q r → touches d q r ≡ true
+  pub touches-of : Touch d q r → touches d q r ≡ true
   touches-of t = rw (is-near (q % d .width) (r % d .width) (t .columns), is-near (q / d .width) (r / d .width) (t .rows))
 
--- ---- the ends of a way
+pub touch-back : {d : Size} {q r : ℕ} → Touch d q r → Touch d r q
+touch-back t = record { from = t .to; to = t .from; columns = (t .columns .1, t .columns .0); rows = (t .rows .1, t .rows .0) }
 
-pub way-in : (d : Size) (lo : ℕ → Bool) {q r : ℕ} → Way d lo q r → r < area d
-way-in d lo (here l t) = l
-way-in d lo (on w t e) = t .to
+-- ---- a way: its end is in the picture and passes the test; what is closed under touching goes along it; it goes on, and back
+
+module _ (d : Size) (lo : ℕ → Bool) where
+  pub way-in : {q r : ℕ} → Way d lo q r → r < area d
+  way-in (here l t) = l
+  way-in (on w t e) = t .to
+
+  pub way-passes : {q r : ℕ} → Way d lo q r → T (lo r)
+  way-passes (here l t) = t
+  way-passes (on w t e) = e
+
+  pub way-keeps : (P : ℕ → Type 0) → ((r t : ℕ) → P r → Touch d r t → T (lo t) → P t) → {q r : ℕ} → P q → Way d lo q r → P r
+  way-keeps P step p (here l t) = p
+  way-keeps P step p (on {r = r} {t = u} w t e) = step r u (way-keeps P step p w) t e
+
+  pub way-on : {q r t : ℕ} → Way d lo q r → Way d lo r t → Way d lo q t
+  way-on v (here l t) = v
+  way-on v (on w t e) = on (way-on v w) t e
+
+  pub way-back : {q r : ℕ} → Way d lo q r → Way d lo r q
+  way-back (here l t) = here l t
+  way-back (on w t e) = way-on (on (here (t .to) e) (touch-back t) (way-passes w)) (way-back w)
 
 -- ---- the rounds of `told`
 

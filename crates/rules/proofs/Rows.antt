@@ -12,8 +12,9 @@ use mir.Val.{Fits}
 use lib.Ieee.{Float}
 use lib.Ieee.Fits.{and-l, and-r}
 use borrow.Author.Tests.{ltb-false, eqb-true, eqb-false, not-false, eq-eqb, ne-eqb, lt-ltb, le-ltb}
-use Rattle.rules.specs.Limits.{maxSide}
-use Rattle.rules.specs.Picture.{area}
+use Rattle.rules.specs.Limits.{maxSide, maxArea}
+use Rattle.rules.specs.Picture.{entries}
+use Rattle.rules.specs.Accepted.{Sides, Input, Room}
 use Rattle.rules.specs.Refusals.{Rule, first, sideRow, inputRow, countRow, matchRow, roomRow}
 use Rattle.rules.specs.declared.Size.{Size}
 use Rattle.rules.proofs.Bools.{neither}
@@ -58,11 +59,6 @@ front-passes (x ∷ rs) rest o = rw (o .0) (front-passes rs rest (o .1))
 
 -- ---- what a row that does not apply says
 
-pub record Sides (d : Size) : Type 0 where
-  pub width : d .width ≤ maxSide
-  pub height : d .height ≤ maxSide
-  pub small : area d ≤ maxSide * maxSide
-
 pub side-off : (d : Size) → sideRow d .applies ≡ false → Sides d
 side-off d e =
     let p = neither (ltb maxSide (d .width)) (ltb maxSide (d .height)) e in
@@ -70,15 +66,15 @@ side-off d e =
     let h = ltb-false maxSide (d .height) (p .1) in
     record { width = w; height = h; small = mul-le-mul w h }
 
-pub input-off : {A : Type 0} (d : Size) (l : List A) → inputRow d l .applies ≡ false → length l ≡ area d
-input-off d l e = eqb-true (length l) (area d) (not-false _ e)
+pub input-off : {A : Type 0} (d : Size) (l : List A) → inputRow d l .applies ≡ false → Input d l
+input-off d l e = eqb-true (length l) (entries d) (not-false _ e)
 
-pub room-off : {A : Type 0} (d : Size) (l : List A) → roomRow d l .applies ≡ false → area d ≤ length l
-room-off d l e = ltb-false (length l) (area d) e
+pub room-off : {A : Type 0} (d : Size) (l : List A) → roomRow d l .applies ≡ false → Room d l
+room-off d l e = ltb-false (length l) (entries d) e
 
 -- and the fact that keeps a row from applying
-pub input-fits : {A : Type 0} (d : Size) (l : List A) → length l ≡ area d → inputRow d l .applies ≡ false
-input-fits d l e = ap not (eq-eqb (length l) (area d) e)
+pub input-fits : {A : Type 0} (d : Size) (l : List A) → Input d l → inputRow d l .applies ≡ false
+input-fits d l e = ap not (eq-eqb (length l) (entries d) e)
 
 pub record Odd (most n : ℕ) : Type 0 where
   pub some : 0 < n
@@ -120,7 +116,7 @@ ne-not a b n = ap not (ne-eqb a b n)
 
 -- where no side is over the limit their product is small, and fits
 module _ (w h : ℕ) {x : Bool} (p : x ≡ (ltb maxSide w || ltb maxSide h)) (q : x ≡ false) where
-  pub small : w * h ≤ maxSide * maxSide
+  pub small : w * h ≤ maxArea
   small = side-off (record { width = w; height = h }) (told p q) .small
 
   pub small-fits : Fits w64 (w * h)

@@ -9,7 +9,7 @@ use lib.Dec.{eqb}
 use lib.ListN.{length, getD}
 use lib.IntN.{ℤ, pos}
 use lib.Ieee.{Float}
-use Rattle.rules.specs.Picture.{area, byPixel, filled, cleared}
+use Rattle.rules.specs.Picture.{area, entries, byPixel, filled, cleared}
 use Rattle.rules.specs.Border.{resolved, coordSays}
 use Rattle.rules.specs.Sums.{plusZero}
 use Rattle.rules.specs.Filters.{convolvedAt, separableAt, bothWays, boxTaps, sharpenKernel, sharpenWeights}
@@ -40,7 +40,7 @@ answered number done kept = (number, accepted number done kept)
 
 -- a buffer with a picture written over it
 abbrev pub painted {ℓ} : {A : Type ℓ} → Size → (ℕ → ℕ → A) → List A → List A
-painted d f old = filled (area d) (byPixel d f) old
+painted d f old = filled (entries d) (byPixel d f) old
 
 -- ---- filters
 
@@ -56,7 +56,7 @@ applyKernel d k mode pixels weights out =
 -- separable convolution: the work buffer and the output
 abbrev pub separated : Size → SeparableKernel → BorderMode → List ℕ → List Float → List Float → List Float → List ℕ → List Float × List ℕ
 separated d k mode pixels horizontal vertical work out =
-    (cleared (area d) plusZero work, painted d (separableAt d k mode pixels horizontal vertical) out)
+    (cleared (entries d) plusZero work, painted d (separableAt d k mode pixels horizontal vertical) out)
 
 unfoldable pub applySeparableKernel : Size → SeparableKernel → BorderMode → List ℕ → List Float → List Float → List Float → List ℕ → ℕ × (List Float × List ℕ)
 applySeparableKernel d k mode pixels horizontal vertical work out =
@@ -104,7 +104,7 @@ magnitudeAt gx gy i = magnitudeOf (energy (getD gx i (pos 0)) (getD gy i (pos 0)
 
 unfoldable pub gradientMagnitude : Size → List ℤ → List ℤ → List Float → ℕ × List Float
 gradientMagnitude d gx gy magnitude =
-    answered (first (magnitudeRows d gx gy magnitude)) (filled (area d) (magnitudeAt gx gy) magnitude) magnitude
+    answered (first (magnitudeRows d gx gy magnitude)) (filled (entries d) (magnitudeAt gx gy) magnitude) magnitude
 
 unfoldable pub nonMaximumSuppression : Size → List Float → List ℤ → List ℤ → List Float → ℕ × List Float
 nonMaximumSuppression d magnitude gx gy out =

@@ -1,5 +1,6 @@
 -- Joined pixels, by paths and without a word of the walk (00.D3.2), and a test that computes them. Demand 3, which counts them, stands with
--- its proof in crate hysteresis, specs/Demand.
+-- its proof in crate hysteresis, specs/Demand. `Touch` and `Way` speak of any one test of pixels, with no seeds: they are what a grouping of
+-- a map's pixels is stated by (`Way d on q r`: q and r are of one group), with the laws in proofs/Paths.
 use Prim.Native.Nat.{ℕ, zero, suc, _+_, _/_, _%_, _≤_, _<_}
 use mathlib.Core.Bool.{Bool, false, _&&_, _||_}
 use mathlib.Core.List.{List}

@@ -1,6 +1,7 @@
 -- Document 01 as definitions, a file a section. Read them beside it: each comment names the sentence that the definition comes from.
 pub mod Limits
 pub mod Picture
+pub mod Accepted
 pub mod Border
 pub mod Sums
 pub mod Filters

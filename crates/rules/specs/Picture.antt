@@ -22,9 +22,13 @@ cleared n z old = filled n (λ i. z) old
 abbrev pub zeros : ℕ → List ℕ
 zeros n = tabulate n (λ i. 0)
 
--- width times height
+-- how many pixels a picture has: what a walk, its marks, its stack and its map have a place for
 abbrev pub area : Size → ℕ
 area d = d .width * d .height
+
+-- how many entries a lent picture has: one for each pixel
+abbrev pub entries : Size → ℕ
+entries d = area d
 
 -- what stands at index i of a picture whose pixel in column x and row y is f x y
 abbrev pub byPixel {ℓ} : {A : Type ℓ} → Size → (ℕ → ℕ → A) → ℕ → A

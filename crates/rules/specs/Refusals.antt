@@ -8,7 +8,7 @@ use lib.IntN.{ℤ, pos}
 use lib.Ieee.{Float, nan, lt}
 use lib.Ieee.Scale.{finite}
 use Rattle.rules.specs.Limits.{maxSide, maxTaps, maxKernel, maxWindow, maxThreshold}
-use Rattle.rules.specs.Picture.{area, anyBelow}
+use Rattle.rules.specs.Picture.{entries, anyBelow}
 use Rattle.rules.specs.Sums.{plusZero, wholeF32}
 use Rattle.rules.specs.Walk.{State, unusable}
 use Rattle.rules.specs.declared.Size.{Size}
@@ -40,7 +40,7 @@ oneSideRow side = rule 1 (eqb side 0 || ltb maxSide side)
 
 -- 2: a lent input is not width times height long
 abbrev pub inputRow {ℓ} : {A : Type ℓ} → Size → List A → Rule
-inputRow d l = rule 2 (not (eqb (length l) (area d)))
+inputRow d l = rule 2 (not (eqb (length l) (entries d)))
 
 -- 3: a size is zero, even or too large, or the number of weights doesn't match
 abbrev pub countRow : ℕ → ℕ → Rule
@@ -66,7 +66,7 @@ orderRow t = rule 6 (lt (t .high) (t .low))
 
 -- 7: a lent output or work buffer has fewer than width times height entries
 abbrev pub roomRow {ℓ} : {A : Type ℓ} → Size → List A → Rule
-roomRow d l = rule 7 (ltb (length l) (area d))
+roomRow d l = rule 7 (ltb (length l) (entries d))
 
 -- 8: a slice's budget is 0
 abbrev pub budgetRow : ℕ → Rule

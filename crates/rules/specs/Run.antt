@@ -1,5 +1,5 @@
 -- The whole run (01.Walk.12, 01.Walk.13): blur, gradient, magnitude, suppression, a walk to its end, the map and its count.
-use Prim.Native.Nat.{ℕ, _+_, _≤_}
+use Prim.Native.Nat.{ℕ, _+_}
 use mathlib.Core.List.{List}
 use lib.Dec.{eqb}
 use lib.ListN.{length, getD}
@@ -11,6 +11,7 @@ use Rattle.rules.specs.Filters.{separableAt, bothWays}
 use Rattle.rules.specs.Gradient.{gxTable, gyTable, gradientAt}
 use Rattle.rules.specs.Suppression.{suppressedAt}
 use Rattle.rules.specs.Walk.{State, sliced, edge}
+use Rattle.rules.specs.Accepted.{Room}
 use Rattle.rules.specs.Refusals.{first, runRows, Scratch}
 use Rattle.rules.specs.Calls.{accepted, magnitudeAt, afterStart}
 use Rattle.rules.specs.declared.Size.{Size}
@@ -78,11 +79,11 @@ canny d pixels taps t s out =
 
 -- room in every lent buffer: at least width * height entries, of any values
 pub record Roomy (d : Size) (s : Scratch) (map : List ℕ) : Type 0 where
-  pub work : area d ≤ length (s .work)
-  pub magnitude : area d ≤ length (s .magnitude)
-  pub gx : area d ≤ length (s .gx)
-  pub gy : area d ≤ length (s .gy)
-  pub blurred : area d ≤ length (s .blurred)
-  pub marks : area d ≤ length (s .marks)
-  pub stack : area d ≤ length (s .stack)
-  pub room : area d ≤ length map
+  pub work : Room d (s .work)
+  pub magnitude : Room d (s .magnitude)
+  pub gx : Room d (s .gx)
+  pub gy : Room d (s .gy)
+  pub blurred : Room d (s .blurred)
+  pub marks : Room d (s .marks)
+  pub stack : Room d (s .stack)
+  pub room : Room d map

@@ -29,5 +29,5 @@ returns-2 c =
 pub map-spec : {M : Type 1} → statement M
 map-spec =
     tie.close
-    (tie.spec (λ c κs. search needs) (λ c. search needs) returns (λ c. omega (arith, ok (c .before .before) .small))
+    (tie.spec (λ c κs. search needs) (λ c. search needs) returns (λ c. omega (arith, ok (c .before .before) .sides .small))
     (λ c κs. let o = ok (c .before .before) in (o .marks-long, o .out-long)) (λ c. search needs) returns-2)

@@ -1,11 +1,10 @@
 -- `read` meets its contract: a picture that is refused, no column, no row, or the pixel. Assumes nothing.
 use borrow.Author.Needs.{needs}
 use native.Mathlib.Omega.{arith}
-use native.Mathlib.Nat.{mul-le-mul}
 use Prim.Native.Nat.{_+_, _*_, _<_, _≤_}
 use borrow.Author.Tests.{lt-ltb, le-ltb, ne-eqb}
 use denote.Ref.{now}
-use Rattle.rules.specs.Limits.{maxSide}
+use Rattle.rules.specs.Limits.{maxArea}
 use Rattle.rules.specs.Picture.{area}
 use Rattle.rules.proofs.Grid.{pixel-in}
 use Rattle.border.specs.Reading.{readIn}
@@ -28,10 +27,10 @@ returns-3 c = let e = c .before .before in rw (read-in _ _ (picture (e .before .
 
 -- both places are inside
 inside : (c : tie.After-struct-known3) → let a = c .before .before .before .before .before .before .before .before .args in
-    (a .y * a .size .width + a .x < area (a .size)) × (area (a .size) ≤ maxSide * maxSide)
+    (a .y * a .size .width + a .x < area (a .size)) × (area (a .size) ≤ maxArea)
 inside c =
     let p = picture (c .before .before .before .before .before) in
-    (pixel-in _ _ _ (c .before .before .before .if2 .left) (c .before .if3 .left), mul-le-mul (p .width-fits) (p .height-fits))
+    (pixel-in _ _ _ (c .before .before .before .if2 .left) (c .before .if3 .left), p .sides .small)
 
 returns-4 : tie.Need-returns-4
 returns-4 c =

@@ -2,10 +2,10 @@
 use borrow.Author.Needs.{needs}
 use native.Mathlib.Omega.{arith}
 use native.Mathlib.Nat.{mod-le, div-le-self}
-use Prim.Native.Nat.{ℕ, _-_, _*_, _/_, _%_, _<_}
+use Prim.Native.Nat.{ℕ, _-_, _/_, _%_, _<_}
 use mathlib.Core.Path.{_∙_}
 use lib.ListN.{getD, length-set}
-use Rattle.rules.specs.Limits.{maxSide}
+use Rattle.rules.specs.Limits.{maxArea}
 use Rattle.rules.specs.Picture.{area}
 use Rattle.rules.specs.Walk.{state, last, pop, taken}
 use Rattle.rules.proofs.Grid.{wide}
@@ -23,10 +23,10 @@ module _ (c : tie.Start) where
   q-in : q < area (c .args .size)
   q-in = last-in (c .pre .1) (c .pre .0)
 
-  x-small : q % c .args .size .width < maxSide * maxSide
+  x-small : q % c .args .size .width < maxArea
   x-small = omega (arith, q-in, mod-le q (c .args .size .width))
 
-  y-small : q / c .args .size .width < maxSide * maxSide
+  y-small : q / c .args .size .width < maxArea
   y-small = omega (arith, q-in, div-le-self q (c .args .size .width))
 
   fit-0 : Fit (c .args .size) (pop (state (c .args .marks .now) (c .args .stack .now) (c .args .pending)))

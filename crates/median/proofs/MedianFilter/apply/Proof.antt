@@ -4,9 +4,8 @@ use denote.Ref.{now}
 use mathlib.Core.Path.{_≡_, sym, _∙_}
 use mathlib.Core.List.{List}
 use Prim.Native.Nat.{ℕ, _<_, _≤_}
-use lib.ListN.{length}
 use Rattle.rules.specs.Limits.{maxWindow}
-use Rattle.rules.specs.Picture.{area}
+use Rattle.rules.specs.Accepted.{Room}
 use Rattle.rules.specs.Refusals.{first, medianRows}
 use Rattle.rules.specs.Calls.{median}
 use Rattle.rules.specs.declared.Size.{Size}
@@ -17,12 +16,11 @@ use Rattle.median.proofs.MedianFilter.apply.Statement.{statement}
 use Rattle.median.proofs.MedianFilter.apply.Tie as tie
 
 -- what the table grants where no row applies
-granted : (d : Size) (w : ℕ) (pixels out : List ℕ) → first (medianRows d w pixels out) ≡ 0 → Picture d pixels × (0 < w) × (w ≤ maxWindow) × (area d ≤ length out)
+granted : (d : Size) (w : ℕ) (pixels out : List ℕ) → first (medianRows d w pixels out) ≡ 0 → Picture d pixels × (0 < w) × (w ≤ maxWindow) × Room d out
 granted d w pixels out z =
     let o = off (medianRows d w pixels out) tt z in
-    let s = side-off d (o .0) in
     let k = count-off maxWindow w (o .1 .1 .0) in
-    (record { width-fits = s .width; height-fits = s .height; long = input-off d pixels (o .1 .0) }, k .some, k .few, room-off d out (o .1 .1 .1 .0))
+    (record { sides = side-off d (o .0); long = input-off d pixels (o .1 .0) }, k .some, k .few, room-off d out (o .1 .1 .1 .0))
 
 abbrev begun : tie.Else1 → tie.Start
 begun e = e .before .before .before .before .before
