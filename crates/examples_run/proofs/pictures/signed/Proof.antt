@@ -4,8 +4,8 @@ use native.Mathlib.Omega.{arith}
 use Prim.Native.Nat.{_-_}
 use mir.Syntax.{w64}
 use Rattle.cases.proofs.Below.{below}
-use Rattle.filters_run.proofs.borders.signed.Statement.{statement}
-use Rattle.filters_run.proofs.borders.signed.Tie as tie
+use Rattle.examples_run.proofs.pictures.signed.Statement.{statement}
+use Rattle.examples_run.proofs.pictures.signed.Tie as tie
 
 sub-result-2 : tie.Need-sub-result-2
 sub-result-2 c = below w64 (4294967295 - c .before .args .bits) (omega (arith, c .if1 .left))
