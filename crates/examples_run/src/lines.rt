@@ -73,6 +73,16 @@ pub(crate) fn bytes_or_number(line: &[u8], got: u8, out: &[u8; ROOM], n: usize) 
     bytes(b"  its bytes", line, b"out", b"out-after", out, n);
 }
 
+pub(crate) fn floats_or_number(line: &[u8], got: u8, out: &[f32; ROOM], n: usize) {
+    if wanted(line) == 0 {
+        floats(b"", line, b"out", b"out-after", out, n);
+        number(b"  its number", line, got);
+        return;
+    }
+    number(b"", line, got);
+    floats(b"  its floats", line, b"out", b"out-after", out, n);
+}
+
 // Of the largest pictures: whether the first entries are all what the case says, as many as it says, and the others the 7 that they were.
 pub(crate) fn largest(line: &[u8], out: &[u8; ROOM], n: usize, first: &[u8], rest: &[u8]) {
     let all = &out[..];

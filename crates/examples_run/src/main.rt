@@ -2,6 +2,7 @@
 // line, with what 01 wants of each. Each printed line has what was got and what is wanted.
 mod gradients;
 mod lines;
+mod magnitudes;
 mod pictures;
 mod shape;
 

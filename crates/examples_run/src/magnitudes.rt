@@ -1,4 +1,5 @@
 // The magnitude of every S below the cap, by 01's inequality, and the guess of every S up to the cap, before it is mended.
+use kelontsira::gradient::kelontsira_magnitude_of;
 ghost use Prim.Native.Nat.{_^_, _≤_};
 
 // Whether the float of the bits c is m * 2^-k with (2m - 1)^2 < 4 S 4^k < (2m + 1)^2.
@@ -26,7 +27,7 @@ pub(crate) fn every() -> u64 {
     let mut count = 0u64;
     let mut s = 1u32;
     while s < 65025 {
-        if nearest(s, report::bits(suppression::magnitude_of(s))) {
+        if nearest(s, report::bits(kelontsira_magnitude_of(s))) {
             count += 1;
         }
         s += 1;

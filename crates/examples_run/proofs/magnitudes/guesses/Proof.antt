@@ -3,8 +3,8 @@ use borrow.Author.Needs.{needs}
 use native.Mathlib.Omega.{arith}
 use Prim.Native.Nat.{_-_, _≤_}
 use mathlib.Core.Logic.{⊎-elim}
-use Rattle.suppression_run.proofs.magnitudes.guesses.Statement.{statement}
-use Rattle.suppression_run.proofs.magnitudes.guesses.Tie as tie
+use Rattle.examples_run.proofs.magnitudes.guesses.Statement.{statement}
+use Rattle.examples_run.proofs.magnitudes.guesses.Tie as tie
 
 abbrev Inv-loop : tie.InvT-loop
 Inv-loop count₀ s₀ count s = (s ≤ 65026) × (count ≤ s)
