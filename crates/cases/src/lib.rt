@@ -1,6 +1,8 @@
 // Cases that stand in a text, one to a line: a name, a colon, and numbers with a space before each. A line that begins with # is a remark.
 // A number is 12, -12 (the pattern of 32 bits), x7fc00000 (bits) or f12 (the bits of the float 12). What is misread shows in what the
 // program writes.
+pub mod fields;
+
 use rules::BorderMode;
 use rules::codes::float;
 use rules::codes::mode_of;
@@ -20,11 +22,11 @@ const ROW: usize = 80;
 
 const COMMENT: u8 = 35;
 
-const NEWLINE: u8 = 10;
+pub(crate) const NEWLINE: u8 = 10;
 
-const SPACE: u8 = 32;
+pub(crate) const SPACE: u8 = 32;
 
-const COLON: u8 = 58;
+pub(crate) const COLON: u8 = 58;
 
 // The line at `at`: writes its name and gives its numbers. `at` is then the next line. A remark writes nothing, and gives zeros.
 pub fn case(text: &[u8], at: &mut usize) -> [u32; 80]
@@ -49,7 +51,7 @@ pub fn starts_remark(text: &[u8], at: usize) -> bool
 }
 
 // The first place from `from` on where either byte stands, or the end.
-fn place_of(text: &[u8], from: usize, a: u8, b: u8) -> usize
+pub(crate) fn place_of(text: &[u8], from: usize, a: u8, b: u8) -> usize
     ensures { λ r. ⌜ from ≤ r ⌝ }
 {
     let mut i = from;
@@ -77,7 +79,7 @@ pub fn next_line(text: &[u8], from: usize) -> usize
 }
 
 // Writes a name; the place of the space after its colon.
-fn after_name(text: &[u8], from: usize) -> usize
+pub fn after_name(text: &[u8], from: usize) -> usize
     ensures { λ r. ⌜ from ≤ r ⌝ }
 {
     let end = place_of(text, from, COLON, NEWLINE);
@@ -110,7 +112,7 @@ pub fn number(text: &[u8], at: &mut usize) -> u32
     token(text, from, end)
 }
 
-fn after_space(text: &[u8], at: usize) -> usize
+pub(crate) fn after_space(text: &[u8], at: usize) -> usize
     ensures { λ r. ⌜ at ≤ r ⌝ }
 {
     if at < text.len() {
@@ -124,20 +126,31 @@ fn after_space(text: &[u8], at: usize) -> usize
 fn token(text: &[u8], from: usize, end: usize) -> u32 {
     if end <= text.len() {
         if from < end {
-            let first = text[from];
-            let rest = from + 1;
-            return match first {
-                b'x' => digits(&text[rest..end], true),
-                b'f' => whole_float(digits(&text[rest..end], false)),
-                b'-' => negative(digits(&text[rest..end], false)),
-                _ => digits(&text[from..end], false),
-            };
+            return pattern(&text[from..end], 0);
         }
     }
     0
 }
 
-fn digits(text: &[u8], hex: bool) -> u32 {
+// The number of a word, and that many more.
+pub(crate) fn pattern(word: &[u8], more: u32) -> u32 {
+    if word.len() < 1 {
+        return 0;
+    }
+    let first = word[0];
+    match first {
+        b'x' => sum(digits(&word[1..], true), more),
+        b'f' => whole_float(sum(digits(&word[1..], false), more)),
+        b'-' => negative(digits(&word[1..], false)),
+        _ => sum(digits(word, false), more),
+    }
+}
+
+fn sum(a: u32, b: u32) -> u32 {
+    ((a as u64 + b as u64) % 0x1_0000_0000) as u32
+}
+
+pub(crate) fn digits(text: &[u8], hex: bool) -> u32 {
     let mut value = 0;
     let mut i = 0;
     while i < text.len() {

@@ -57,7 +57,7 @@ pub fn bytes(name: &[u8], got: &[u8], wanted: &[u8]) -> bool
 }
 
 // Entry by entry, as far as the first goes; the lengths are the same too.
-fn same_bytes(got: &[u8], wanted: &[u8]) -> bool
+pub fn same_bytes(got: &[u8], wanted: &[u8]) -> bool
     ensures { λ r. ⌜ r ≡ alike eqb 0 (now (got .entry)) (now (wanted .entry)) ⌝ }
 {
     if got.len() != wanted.len() {
