@@ -83,8 +83,8 @@ fn low_byte(z: f32) -> u8 {
     0
 }
 
-// Two of Heron's steps; 2^23 more, and the lowest bits are the nearest whole number. Tried on every s, this is the byte itself; no proof
-// leans on it.
+// Two of Heron's steps; 2^23 more, and the lowest bits are the nearest whole number. No proof leans on it, and no
+// program counts how often it is the byte.
 pub fn guess(s: u16) -> u8 {
     let f = s as f32;
     let a = first_guess(f);
