@@ -15,7 +15,8 @@ use Rattle.rules.specs.Run.{suppressedOf, edgesOf, runEdges, countOf, canny, Ro
 use Rattle.rules.specs.declared.Size.{Size}
 use Rattle.rules.specs.declared.Thresholds.{Thresholds}
 use Rattle.rules.proofs.Fill.{length-tabulate, length-filled, filled-at, take-filled, drop-filled, tabulate-getD}
-use Rattle.rules.proofs.Rows.{off, input-off, room-off, rows}
+use Rattle.rules.proofs.Rows.{off, input-off, rows}
+use Rattle.rules.proofs.Runs.{rooms}
 use Rattle.rules.proofs.Tallies.{tally-eq}
 use Rattle.scratch.specs.Cleared.{clearedTo}
 use Rattle.canny.specs.Lent.{accepted, Run, Suppressed, Walkable, Walked}
@@ -41,19 +42,8 @@ clear-past n z o l p h q = let e : min n (length l) ≡ n = omega arith in (rw e
 -- ---- what acceptance grants
 
 module _ (d : Size) (pixels : List ℕ) (taps : List Float) (t : Thresholds) (s : Scratch) (out : List ℕ) (e : first (runRows d pixels taps t s out) ≡ 0) where
-  pub rooms : Roomy d s out
-  rooms =
-      let q = off (runRows d pixels taps t s out) tt e .1 .1 .1 .1 .1 .1 in
-      record {
-        work = room-off d (s .work) (q .0);
-        magnitude = room-off d (s .magnitude) (q .1 .0);
-        gx = room-off d (s .gx) (q .1 .1 .0);
-        gy = room-off d (s .gy) (q .1 .1 .1 .0);
-        blurred = room-off d (s .blurred) (q .1 .1 .1 .1 .0);
-        marks = room-off d (s .marks) (q .1 .1 .1 .1 .1 .0);
-        stack = room-off d (s .stack) (q .1 .1 .1 .1 .1 .1 .0);
-        room = room-off d out (q .1 .1 .1 .1 .1 .1 .1 .0);
-      }
+  pub roomed : Roomy d s out
+  roomed = rooms d pixels taps t s out e
 
   pub granted : Run d pixels taps (s .work) (s .magnitude) (s .gx) (s .gy) (s .blurred)
   granted =
@@ -63,11 +53,11 @@ module _ (d : Size) (pixels : List ℕ) (taps : List Float) (t : Thresholds) (s 
         long = input-off d pixels (p .1 .0);
         counted = p .1 .1 .0;
         weighed = p .1 .1 .1 .0;
-        work-room = rooms .work;
-        magnitude-room = rooms .magnitude;
-        gx-room = rooms .gx;
-        gy-room = rooms .gy;
-        blurred-room = rooms .blurred;
+        work-room = roomed .work;
+        magnitude-room = roomed .magnitude;
+        gx-room = roomed .gx;
+        gy-room = roomed .gy;
+        blurred-room = roomed .blurred;
       }
 
   -- a walk over the suppressed magnitudes is accepted
@@ -79,7 +69,7 @@ module _ (d : Size) (pixels : List ℕ) (taps : List Float) (t : Thresholds) (s 
   startable =
       let p = off (runRows d pixels taps t s out) tt e in
       let l = suppressed-long in
-      let r = rooms in
+      let r = roomed in
       sym (search rows depth 9)
 
   -- ---- after the stages up to suppression
@@ -97,7 +87,7 @@ module _ (d : Size) (pixels : List ℕ) (taps : List Float) (t : Thresholds) (s 
     walkable = record {
       accepted = ap (λ (l : List Float). first (startRows d t l (s .marks) (s .stack))) read ∙ startable;
       long = omega (arith, ap length (u .is) ∙ length-filled (area d) _ (s .work) (granted .work-room), granted .work-room);
-      room = rooms .room;
+      room = roomed .room;
     }
 
     -- ---- after the walk and the clearing

@@ -1,4 +1,4 @@
-// The magnitude of every S below the cap, by 01's inequality, and the guess of every S up to the cap, before it is mended.
+// The magnitude of every S below the cap, by 01's inequality, and the guesses of every S, before they are mended.
 use kelontsira::gradients::kelontsira_magnitude_of;
 ghost use Prim.Native.Nat.{_^_, _≤_};
 
@@ -35,12 +35,21 @@ pub(crate) fn every() -> u64 {
     count
 }
 
-// How many S from 0 to 65,025 have a guess that passes its test.
-pub(crate) fn guesses() -> u64 {
+// Whether the guess of s passes its test: of Sobel's byte, or of the magnitude.
+fn holds(byte: bool, s: u32) -> bool {
+    if byte {
+        return pixel::byte::guess_holds((s % 65536) as u16);
+    }
+    pixel::root::guess_holds(s)
+}
+
+// How many S below `end` have a guess that does. The guess of a magnitude is that of 65,025 from there on; for Sobel's byte S is held to at
+// most 64,771.
+pub(crate) fn guesses(byte: bool, end: u32) -> u64 {
     let mut count = 0u64;
     let mut s = 0u32;
-    while s < 65026 {
-        if pixel::root::guess_holds(s) {
+    while s < end {
+        if holds(byte, s) {
             count += 1;
         }
         s += 1;

@@ -1,5 +1,5 @@
--- The float at which a magnitude is guessed, and the test that it must pass, step by step as the code works them out. No stage's contract
--- speaks of them: they are here so that a guess can be tried by itself, before anything is mended.
+-- The float at which a magnitude is guessed and the test that it must pass, and the guess of Sobel's byte, step by step as the code works
+-- them out. No stage's contract speaks of them: they are here so that a guess can be tried by itself, before anything is mended.
 use Prim.Native.Nat.{ℕ, _+_, _-_, _*_, _/_, _%_, _^_, _<_, _≤_}
 use mathlib.Core.Path.{_≡_}
 use mathlib.Core.Bool.{Bool, true, cond, _&&_, _||_}
@@ -43,6 +43,16 @@ unfoldable pub guessOf : ℕ → Float
 guessOf s =
     let f = wholeF32 (pos (cappedS s)) in
     cond (eqb s 0) plusZero (lastStep f (heron f (heron f (firstGuess f))))
+
+-- a float's lowest eight bits
+unfoldable pub lowByte : Float → ℕ
+lowByte z = cond (lt plusZero z) (toBits binary32 z % 256) 0
+
+-- of Sobel's byte: Heron's steps, and 2^23 more, so that the lowest bits are the nearest whole number
+unfoldable pub byteGuess : ℕ → ℕ
+byteGuess s =
+    let f = wholeF32 (pos s) in
+    lowByte (add binary32 (heron f (heron f (firstGuess f))) (ofBits binary32 0x4b00_0000))
 
 -- ---- the test, in whole numbers
 

@@ -10,6 +10,7 @@ ghost use mathlib.Core.Bool.{true};
 ghost use Prim.Native.Nat.{_≤_};
 ghost use Rattle.rules.specs.Root.{upperEnd, sobelByte};
 ghost use Rattle.pixel.specs.Components.{nineEnergy};
+ghost use Rattle.pixel.specs.Guess.{lowByte, byteGuess};
 ghost use Rattle.pixel.specs.Halving.{upperEnds, Ends, Among, Halving, held, placeOf};
 
 // S in 16 bits, of which eight fit where four of 32 do. Over the last end every number has byte 255, so one will do for all.
@@ -76,16 +77,20 @@ pub fn sobel_byte(s: u32) -> u8
 // ---- A guess, and its test by the table.
 
 // The lowest byte of a float's bits.
-fn low_byte(z: f32) -> u8 {
+fn low_byte(z: f32) -> u8
+    ensures { λ r. ⌜ r ≡ lowByte z ⌝ }
+{
     if z > 0.0 {
         return (f32::to_bits(z) % 256) as u8;
     }
     0
 }
 
-// Two of Heron's steps; 2^23 more, and the lowest bits are the nearest whole number. No proof leans on it, and no
-// program counts how often it is the byte.
-pub fn guess(s: u16) -> u8 {
+// Tried on every s that is ever held, this is the byte itself (`guess_holds`); no proof leans on it. Two of Heron's steps; 2^23 more, and the
+// lowest bits are the nearest whole number.
+pub fn guess(s: u16) -> u8
+    ensures { λ r. ⌜ r ≡ byteGuess s ⌝ }
+{
     let f = s as f32;
     let a = first_guess(f);
     let b = (a + f / a) * 0.5;
@@ -111,6 +116,24 @@ pub fn is_byte(end: u16, s: u16, byte: u8) -> bool
     let over = wrapping_add_u16(s, 2 * n);
     let within = (s <= end) & ((end < over) | (n == 0));
     ((n < 255) & within) | ((n == 255) & (end < s))
+}
+
+// The end that the table has for a byte.
+fn end_of(ends: &[u32], byte: u8) -> u16
+    requires { ⌜ Ends (now ends) ⌝ }
+    ensures { λ r. ⌜ r ≡ upperEnd (placeOf byte) ⌝ }
+{
+    ends[place_of(byte)] as u16
+}
+
+// Whether the guess passes its test by the table, so that nothing is mended: it is then the byte already. For a run over every S
+// (docs/LOOSE.md).
+pub fn guess_holds(s: u16) -> bool
+    ensures { λ r. ⌜ (r ≡ true → byteGuess s ≡ sobelByte s) ⌝ }
+{
+    let ends = upper_ends();
+    let byte = guess(s);
+    is_byte(end_of(&ends, byte), s, byte)
 }
 
 // The 255 upper ends n² + n: S gets byte n from above the end before it up to its own (01.Gradient.5, 01.Gradient.6).

@@ -7,7 +7,7 @@ use Rattle.rules.specs.Refusals.{Scratch, scratch}
 use Rattle.rules.specs.Run.{Roomy}
 use Rattle.rules.proofs.Rows.{side-off}
 use Rattle.canny.specs.Lent.{Run}
-use Rattle.canny.proofs.Running.{granted, rooms, walkable, ran}
+use Rattle.canny.proofs.Running.{granted, roomed, walkable, ran}
 use Rattle.canny.proofs.stages.run.Statement.{statement}
 use Rattle.canny.proofs.stages.run.Tie as tie
 
@@ -41,7 +41,7 @@ module _ (s : tie.Start) where
   grants = let a = s .args in granted (a .size) (now (a .pixels)) (now (a .taps)) (a .thresholds) lent (now (a .map)) (s .pre)
 
   holds : Roomy (s .args .size) lent (now (s .args .map))
-  holds = let a = s .args in rooms (a .size) (now (a .pixels)) (now (a .taps)) (a .thresholds) lent (now (a .map)) (s .pre)
+  holds = let a = s .args in roomed (a .size) (now (a .pixels)) (now (a .taps)) (a .thresholds) lent (now (a .map)) (s .pre)
 
 walk-requires : tie.Need-walk-requires
 walk-requires c κs =

@@ -7,10 +7,10 @@ use Rattle.examples_run.proofs.magnitudes.guesses.Statement.{statement}
 use Rattle.examples_run.proofs.magnitudes.guesses.Tie as tie
 
 abbrev Inv-loop : tie.InvT-loop
-Inv-loop count₀ s₀ count s = (s ≤ 65026) × (count ≤ s)
+Inv-loop byte end count₀ s₀ count s = count ≤ s
 
 abbrev μ-loop : tie.MeasureT-loop
-μ-loop count₀ s₀ count s = 65026 - s
+μ-loop byte end count₀ s₀ count s = end - s
 
 loop-again : tie.Need-loop-again Inv-loop μ-loop
 loop-again c = ⊎-elim (λ w. omega arith) (λ w. omega arith) (c .if1 .came)
