@@ -1,4 +1,4 @@
--- A row of Sobel's bytes, and of their sums. Assumes nothing.
+-- A block of Sobel's bytes, and of their sums. Assumes nothing.
 use mathlib.Core.Path.{_≡_, refl, ap, _∙_}
 use mathlib.Core.List.{List}
 use Prim.Native.Nat.{ℕ, _<_, _≤_}
@@ -6,15 +6,9 @@ use native.Mathlib.Omega.{arith}
 use lib.ListN.{length, getD, drop-of-length-le}
 use Rattle.rules.specs.Picture.{filled}
 use Rattle.rules.specs.Root.{sobelByte}
-use Rattle.rules.specs.Calls.{sobelAt}
-use Rattle.rules.specs.declared.Size.{Size}
-use Rattle.rules.specs.declared.BorderMode.{BorderMode}
-use Rattle.rules.proofs.Fill.{filled-at, filled-by}
-use Rattle.border.specs.Lent.{written}
-use Rattle.border.proofs.Writing.{write-all}
-use Rattle.gradient.specs.Bytes.{sumOf}
+use Rattle.rules.proofs.Fill.{filled-at, filled-by, recount}
+use Rattle.gradient.specs.Bytes.{byteBy}
 use Rattle.gradient.specs.Entries.{AllBelow}
-use Rattle.gradient.proofs.Pixels.{byte-about}
 
 -- ---- a row of bytes: what stood there before does not show
 
@@ -27,12 +21,8 @@ whole f o l e p =
 pub all-right : (f : ℕ → ℕ) (o l : List ℕ) → length l ≡ length o → AllBelow 0 (length l) f l → l ≡ filled (length o) f o
 all-right f o l e h = whole f o l e (filled-by (length l) f l l 0 (omega arith) h refl)
 
--- ---- a row of sums
+-- ---- a block of sums gives its bytes
 
-module _ (d : Size) (mode : BorderMode) (pixels : List ℕ) (y : ℕ) (o : List ℕ) {sums : List ℕ} (e : sums ≡ written 0 (d .width) (sumOf d mode pixels y) o) where
-  entry : (x : ℕ) → x < d .width → getD sums x 0 ≡ sumOf d mode pixels y x
-  entry x h = filled-at (d .width) (sumOf d mode pixels y) o sums 0 x (e ∙ write-all (d .width) (sumOf d mode pixels y) o) h
-
-  -- gives the row's bytes
-  pub row-byte : (x : ℕ) → x < d .width → sobelByte (getD sums x 0) ≡ sobelAt d mode pixels x y
-  row-byte x h = ap sobelByte (entry x h) ∙ byte-about d mode pixels x y refl
+pub block-bytes : (n : ℕ) (f : ℕ → ℕ) (s : List ℕ) {sums : List ℕ} (o : List ℕ) {r : List ℕ} → sums ≡ filled n f s → length o ≡ n → r ≡ filled (length o) (byteBy sums) o
+    → r ≡ filled (length o) (λ k. sobelByte (f k)) o
+block-bytes n f s {sums} o e l p = recount (length o) _ _ o _ p (λ i h. ap sobelByte (filled-at n f s sums 0 i e (omega arith)))

@@ -1,7 +1,8 @@
-// Sobel's two components of every pixel, a run of pixels at a time.
-use crate::window::inner_count;
+// Sobel's two components of every pixel, a row at a time: from the row, the one above it and the one below it.
+use crate::window::inner_columns;
 use crate::window::nine_about;
 use crate::window::nine_inside;
+use crate::window::span_of;
 use pixel::components::gx_of;
 use pixel::components::gy_of;
 use refusals::gradient::of_gradients;
@@ -9,100 +10,135 @@ use rules::ACCEPTED;
 use rules::BorderMode;
 use rules::Size;
 ghost use mathlib.Core.Path.{_≡_};
-ghost use Prim.Native.Nat.{_≤_, _<_};
+ghost use Prim.Native.Nat.{_+_, _≤_};
 ghost use lib.ListN.{length};
+ghost use Rattle.rules.specs.Limits.{maxSide};
 ghost use Rattle.rules.specs.Picture.{area, filled};
-ghost use Rattle.rules.specs.Gradient.{gxTable, gyTable};
-ghost use Rattle.rules.specs.Calls.{sobelGradients};
-ghost use Rattle.border.specs.Lent.{written, writtenRow};
+ghost use Rattle.rules.specs.Gradient.{gxTable, gyTable, gradientAt};
+ghost use Rattle.rules.specs.Calls.{painted, sobelGradients};
 ghost use Rattle.refusals.specs.Rows.{Picture};
-ghost use Rattle.gradient.specs.Nine.{Stretch, HasNine, insideOf, gxOf, gyOf};
+ghost use Rattle.gradient.specs.Nine.{HasBeside};
+ghost use Rattle.gradient.specs.Rows.{Lines, componentIn, componentBeside};
 
-// From index a to index e, through the border.
+// The columns from column `from` on, as many as the buffers have room for, through the border.
 fn outer_gradients(
-    pixels: &[u8],
-    size: Size,
+    above: &[u8],
+    row: &[u8],
+    below: &[u8],
     border: BorderMode,
-    a: usize,
-    e: usize,
-    gx: &mut [i16],
-    gy: &mut [i16],
-)
-    requires { ⌜ Picture size (now pixels) × Stretch size a e (now gx) × Stretch size a e (now gy) ⌝ }
-    ensures { λ _. ⌜
-        (now (gx .exit) ≡ written a e (gxOf size border (now (pixels .entry))) (now (gx .entry)))
-        × (now (gy .exit) ≡ written a e (gyOf size border (now (pixels .entry))) (now (gy .entry)))
-        ⌝ }
-{
-    let mut i = a;
-    while i < e {
-        let nine = nine_about(pixels, size, border, i % size.width, i / size.width);
-        gx[i] = gx_of(&nine);
-        gy[i] = gy_of(&nine);
-        i += 1;
-    }
-}
-
-// From index a to index e, where each pixel has its nine bytes in the picture.
-fn inner_gradients(pixels: &[u8], width: usize, a: usize, e: usize, gx: &mut [i16], gy: &mut [i16])
-    requires { ⌜ HasNine (now pixels) width a e × (e ≤ length (now gx)) × (e ≤ length (now gy)) ⌝ }
-    ensures { λ _. ⌜
-        (now (gx .exit) ≡ written a e (insideOf gxTable (now (pixels .entry)) width) (now (gx .entry)))
-        × (now (gy .exit) ≡ written a e (insideOf gyTable (now (pixels .entry)) width) (now (gy .entry)))
-        ⌝ }
-{
-    let mut i = a;
-    while i < e {
-        let nine = nine_inside(pixels, width, i);
-        gx[i] = gx_of(&nine);
-        gy[i] = gy_of(&nine);
-        i += 1;
-    }
-}
-
-fn gradient_row(
-    pixels: &[u8],
-    size: Size,
-    border: BorderMode,
-    y: usize,
+    from: usize,
     gx: &mut [i16],
     gy: &mut [i16],
 )
     requires { ⌜
-        Picture size (now pixels)
-        × (y < size .height)
-        × (area size ≤ length (now gx))
-        × (area size ≤ length (now gy))
+        (from + length (now gx) ≤ length (now row))
+        × (length (now row) ≤ maxSide)
+        × (length (now gy) ≡ length (now gx))
         ⌝ }
     ensures { λ _. ⌜
-        (now (gx .exit) ≡ writtenRow size y (gxOf size border (now (pixels .entry))) (now (gx .entry)))
-        × (now (gy .exit) ≡ writtenRow size y (gyOf size border (now (pixels .entry))) (now (gy .entry)))
+        (now (gx .exit) ≡ filled (length (now (gx .entry))) (λ k. componentIn gxTable border (now (above .entry)) (now (row .entry)) (now (below .entry)) (from + k)) (now (gx .entry)))
+        × (now (gy .exit) ≡ filled (length (now (gy .entry))) (λ k. componentIn gyTable border (now (above .entry)) (now (row .entry)) (now (below .entry)) (from + k)) (now (gy .entry)))
         ⌝ }
 {
-    let a = y * size.width;
-    let e = a + size.width;
-    let n = inner_count(size, y);
-    if n == 0 {
-        outer_gradients(pixels, size, border, a, e, gx, gy);
+    let n = gx.len();
+    let mut k = 0;
+    while k < n {
+        let nine = nine_about(above, row, below, border, from + k);
+        gx[k] = gx_of(&nine);
+        gy[k] = gy_of(&nine);
+        k += 1;
+    }
+}
+
+// The same where each column has both columns beside it.
+fn inner_gradients(
+    above: &[u8],
+    row: &[u8],
+    below: &[u8],
+    from: usize,
+    gx: &mut [i16],
+    gy: &mut [i16],
+)
+    requires { ⌜
+        HasBeside (now above) (now row) (now below) from (length (now gx))
+        × (length (now gy) ≡ length (now gx))
+        ⌝ }
+    ensures { λ _. ⌜
+        (now (gx .exit) ≡ filled (length (now (gx .entry))) (λ k. componentBeside gxTable (now (above .entry)) (now (row .entry)) (now (below .entry)) (from + k)) (now (gx .entry)))
+        × (now (gy .exit) ≡ filled (length (now (gy .entry))) (λ k. componentBeside gyTable (now (above .entry)) (now (row .entry)) (now (below .entry)) (from + k)) (now (gy .entry)))
+        ⌝ }
+{
+    let n = gx.len();
+    let mut k = 0;
+    while k < n {
+        let nine = nine_inside(above, row, below, from + k);
+        gx[k] = gx_of(&nine);
+        gy[k] = gy_of(&nine);
+        k += 1;
+    }
+}
+
+fn gradient_row(
+    above: &[u8],
+    row: &[u8],
+    below: &[u8],
+    border: BorderMode,
+    gx: &mut [i16],
+    gy: &mut [i16],
+)
+    requires { ⌜ Lines (now row) (now gx) × Lines (now row) (now gy) ⌝ }
+    ensures { λ _. ⌜
+        (now (gx .exit) ≡ filled (length (now (row .entry))) (componentIn gxTable border (now (above .entry)) (now (row .entry)) (now (below .entry))) (now (gx .entry)))
+        × (now (gy .exit) ≡ filled (length (now (row .entry))) (componentIn gyTable border (now (above .entry)) (now (row .entry)) (now (below .entry))) (now (gy .entry)))
+        ⌝ }
+{
+    let width = row.len();
+    let inner = inner_columns(above.len(), width, below.len(), 0, width);
+    let lo = inner.lo;
+    let hi = inner.hi;
+    if hi <= lo {
+        outer_gradients(above, row, below, border, 0, gx, gy);
         return;
     }
-    let first = a + 1;
-    let last = first + n;
-    outer_gradients(pixels, size, border, a, first, gx, gy);
-    inner_gradients(pixels, size.width, first, last, gx, gy);
-    outer_gradients(pixels, size, border, last, e, gx, gy);
+    outer_gradients(above, row, below, border, 0, &mut gx[0..lo], &mut gy[0..lo]);
+    inner_gradients(above, row, below, lo, &mut gx[lo..hi], &mut gy[lo..hi]);
+    outer_gradients(
+        above,
+        row,
+        below,
+        border,
+        hi,
+        &mut gx[hi..width],
+        &mut gy[hi..width],
+    );
 }
 
 fn gradient_rows(pixels: &[u8], size: Size, border: BorderMode, gx: &mut [i16], gy: &mut [i16])
     requires { ⌜ Picture size (now pixels) × (area size ≤ length (now gx)) × (area size ≤ length (now gy)) ⌝ }
     ensures { λ _. ⌜
-        (now (gx .exit) ≡ filled (area size) (gxOf size border (now (pixels .entry))) (now (gx .entry)))
-        × (now (gy .exit) ≡ filled (area size) (gyOf size border (now (pixels .entry))) (now (gy .entry)))
+        (now (gx .exit) ≡ painted size (gradientAt gxTable size border (now (pixels .entry))) (now (gx .entry)))
+        × (now (gy .exit) ≡ painted size (gradientAt gyTable size border (now (pixels .entry))) (now (gy .entry)))
         ⌝ }
 {
     let mut y = 0;
+    let mut start = 0;
     while y < size.height {
-        gradient_row(pixels, size, border, y, gx, gy);
+        let end = start + size.width;
+        let above = span_of(size, border, y, 0);
+        let below = span_of(size, border, y, 2);
+        let a = above.start;
+        let b = above.end;
+        let c = below.start;
+        let d = below.end;
+        gradient_row(
+            &pixels[a..b],
+            &pixels[start..end],
+            &pixels[c..d],
+            border,
+            &mut gx[start..end],
+            &mut gy[start..end],
+        );
+        start = end;
         y += 1;
     }
 }

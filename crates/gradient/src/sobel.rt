@@ -1,7 +1,8 @@
-// Sobel's own bytes, a row at a time: S of each pixel, a guess of its root, and the table of ends to test the guess by.
-use crate::window::inner_count;
+// Sobel's own bytes, a block of a row at a time: S of each pixel, a guess of its root, and the table of ends to test the guess by.
+use crate::window::inner_columns;
 use crate::window::nine_about;
 use crate::window::nine_inside;
+use crate::window::span_of;
 use pixel::byte::guess;
 use pixel::byte::is_byte;
 use pixel::byte::place_of;
@@ -12,69 +13,91 @@ use refusals::filter::of_plain;
 use rules::ACCEPTED;
 use rules::BorderMode;
 use rules::Size;
+use scratch::least;
 ghost use mathlib.Core.Path.{_≡_};
 ghost use mathlib.Core.Bool.{true};
-ghost use Prim.Native.Nat.{_+_, _≤_, _<_};
+ghost use Prim.Native.Nat.{_+_, _≤_};
 ghost use lib.ListN.{length};
+ghost use Rattle.rules.specs.Limits.{maxSide};
 ghost use Rattle.rules.specs.Picture.{area, filled};
-ghost use Rattle.rules.specs.Calls.{sobelAt, sobel};
-ghost use Rattle.border.specs.Lent.{written};
+ghost use Rattle.rules.specs.Calls.{painted, sobelAt, sobel};
 ghost use Rattle.refusals.specs.Rows.{Picture};
 ghost use Rattle.pixel.specs.Halving.{Ends};
-ghost use Rattle.gradient.specs.Nine.{HasNine, byteOf};
-ghost use Rattle.gradient.specs.Bytes.{Columns, sumOf, sumInside, endOf, byteBy, Tested};
+ghost use Rattle.gradient.specs.Nine.{HasBeside};
+ghost use Rattle.gradient.specs.Rows.{Lines, sumIn, sumBeside, byteIn};
+ghost use Rattle.gradient.specs.Bytes.{endOf, byteBy, Tested};
 ghost use Rattle.gradient.specs.Entries.{AllBelow};
 
-// S of the pixels from column a to column e of row y, through the border.
+// How many pixels a block has at the most: room for their sums and ends is on the stack.
+const BLOCK: usize = 256;
+
+// S of the columns from column `from` on, as many as there is room for, through the border.
 fn outer_sums(
-    pixels: &[u8],
-    size: Size,
+    above: &[u8],
+    row: &[u8],
+    below: &[u8],
     border: BorderMode,
-    y: usize,
-    a: usize,
-    e: usize,
+    from: usize,
     sums: &mut [u16],
 )
-    requires { ⌜ Columns size (now pixels) y a e × (e ≤ length (now sums)) ⌝ }
-    ensures { λ _. ⌜ now (sums .exit) ≡ written a e (sumOf size border (now (pixels .entry)) y) (now (sums .entry)) ⌝ }
+    requires { ⌜ (from + length (now sums) ≤ length (now row)) × (length (now row) ≤ maxSide) ⌝ }
+    ensures { λ _. ⌜
+        now (sums .exit)
+        ≡ filled (length (now (sums .entry))) (λ k. sumIn border (now (above .entry)) (now (row .entry)) (now (below .entry)) (from + k)) (now (sums .entry))
+        ⌝ }
 {
-    let mut x = a;
-    while x < e {
-        let nine = nine_about(pixels, size, border, x, y);
-        sums[x] = sum_of(&nine);
-        x += 1;
+    let n = sums.len();
+    let mut k = 0;
+    while k < n {
+        let nine = nine_about(above, row, below, border, from + k);
+        sums[k] = sum_of(&nine);
+        k += 1;
     }
 }
 
-// S of the n inner pixels, columns 1 to n, of the row that begins at index `start`.
-fn inner_sums(pixels: &[u8], width: usize, start: usize, n: usize, sums: &mut [u16])
-    requires { ⌜ HasNine (now pixels) width (start + 1) (start + 1 + n) × (1 + n ≤ length (now sums)) ⌝ }
-    ensures { λ _. ⌜ now (sums .exit) ≡ written 1 (1 + n) (sumInside (now (pixels .entry)) width start) (now (sums .entry)) ⌝ }
+// The same where each column has both columns beside it.
+fn inner_sums(above: &[u8], row: &[u8], below: &[u8], from: usize, sums: &mut [u16])
+    requires { ⌜ HasBeside (now above) (now row) (now below) from (length (now sums)) ⌝ }
+    ensures { λ _. ⌜
+        now (sums .exit)
+        ≡ filled (length (now (sums .entry))) (λ k. sumBeside (now (above .entry)) (now (row .entry)) (now (below .entry)) (from + k)) (now (sums .entry))
+        ⌝ }
 {
-    let end = 1 + n;
-    let mut x = 1;
-    while x < end {
-        let nine = nine_inside(pixels, width, start + x);
-        sums[x] = sum_of(&nine);
-        x += 1;
+    let n = sums.len();
+    let mut k = 0;
+    while k < n {
+        let nine = nine_inside(above, row, below, from + k);
+        sums[k] = sum_of(&nine);
+        k += 1;
     }
 }
 
-// S of every pixel of row y.
-fn sum_row(pixels: &[u8], size: Size, border: BorderMode, y: usize, sums: &mut [u16])
-    requires { ⌜ Picture size (now pixels) × (y < size .height) × (size .width ≤ length (now sums)) ⌝ }
-    ensures { λ _. ⌜ now (sums .exit) ≡ written 0 (size .width) (sumOf size border (now (pixels .entry)) y) (now (sums .entry)) ⌝ }
+// S of n columns from column `from` on.
+fn sum_block(
+    above: &[u8],
+    row: &[u8],
+    below: &[u8],
+    border: BorderMode,
+    from: usize,
+    n: usize,
+    sums: &mut [u16],
+)
+    requires { ⌜ (from + n ≤ length (now row)) × (length (now row) ≤ maxSide) × (n ≤ length (now sums)) ⌝ }
+    ensures { λ _. ⌜
+        now (sums .exit)
+        ≡ filled n (λ k. sumIn border (now (above .entry)) (now (row .entry)) (now (below .entry)) (from + k)) (now (sums .entry))
+        ⌝ }
 {
-    let width = size.width;
-    let n = inner_count(size, y);
-    if n == 0 {
-        outer_sums(pixels, size, border, y, 0, width, sums);
+    let inner = inner_columns(above.len(), row.len(), below.len(), from, n);
+    let lo = inner.lo;
+    let hi = inner.hi;
+    if hi <= lo {
+        outer_sums(above, row, below, border, from, &mut sums[0..n]);
         return;
     }
-    let last = 1 + n;
-    outer_sums(pixels, size, border, y, 0, 1, sums);
-    inner_sums(pixels, width, y * width, n, sums);
-    outer_sums(pixels, size, border, y, last, width, sums);
+    outer_sums(above, row, below, border, from, &mut sums[0..lo]);
+    inner_sums(above, row, below, from + lo, &mut sums[lo..hi]);
+    outer_sums(above, row, below, border, from + hi, &mut sums[hi..n]);
 }
 
 // A guess for each byte.
@@ -143,53 +166,90 @@ fn bytes_of(ends: &[u32], sums: &[u16], found: &mut [u16], out: &mut [u8])
     one_by_one(sums, out);
 }
 
-// Row y, with room for its sums and their ends.
-fn byte_row(
+// A block of a row, from column `from` on, with room for its sums and their ends.
+fn byte_block(
     ends: &[u32; 255],
-    pixels: &[u8],
-    size: Size,
+    above: &[u8],
+    row: &[u8],
+    below: &[u8],
     border: BorderMode,
-    y: usize,
-    sums: &mut [u16; 640],
-    found: &mut [u16; 640],
+    from: usize,
+    sums: &mut [u16; BLOCK],
+    found: &mut [u16; BLOCK],
     out: &mut [u8],
 )
     requires { ⌜
         Ends (now ends)
-        × Picture size (now pixels)
-        × (y < size .height)
-        × (length (now out) ≡ size .width)
+        × (from + length (now out) ≤ length (now row))
+        × (length (now row) ≤ maxSide)
+        × (length (now out) ≤ 256)
         ⌝ }
     ensures { λ _. ⌜
         now (out .exit)
-        ≡ filled (size .width) (λ x. sobelAt size border (now (pixels .entry)) x y) (now (out .entry))
+        ≡ filled (length (now (out .entry))) (λ k. byteIn border (now (above .entry)) (now (row .entry)) (now (below .entry)) (from + k)) (now (out .entry))
         ⌝ }
 {
-    sum_row(pixels, size, border, y, sums);
+    sum_block(above, row, below, border, from, out.len(), sums);
     bytes_of(ends, sums, found, out);
+}
+
+fn byte_row(
+    ends: &[u32; 255],
+    above: &[u8],
+    row: &[u8],
+    below: &[u8],
+    border: BorderMode,
+    out: &mut [u8],
+)
+    requires { ⌜ Ends (now ends) × Lines (now row) (now out) ⌝ }
+    ensures { λ _. ⌜
+        now (out .exit)
+        ≡ filled (length (now (row .entry))) (byteIn border (now (above .entry)) (now (row .entry)) (now (below .entry))) (now (out .entry))
+        ⌝ }
+{
+    let mut sums = [0u16; BLOCK];
+    let mut found = [0u16; BLOCK];
+    let width = row.len();
+    let mut at = 0;
+    while at < width {
+        let end = least(at + BLOCK, width);
+        byte_block(
+            ends,
+            above,
+            row,
+            below,
+            border,
+            at,
+            &mut sums,
+            &mut found,
+            &mut out[at..end],
+        );
+        at = end;
+    }
 }
 
 // The table of ends is put on the stack here, once for a picture.
 fn byte_rows(pixels: &[u8], size: Size, border: BorderMode, out: &mut [u8])
     requires { ⌜ Picture size (now pixels) × (area size ≤ length (now out)) ⌝ }
-    ensures { λ _. ⌜ now (out .exit) ≡ filled (area size) (byteOf size border (now (pixels .entry))) (now (out .entry)) ⌝ }
+    ensures { λ _. ⌜ now (out .exit) ≡ painted size (sobelAt size border (now (pixels .entry))) (now (out .entry)) ⌝ }
 {
     let ends = upper_ends();
-    let mut sums = [0u16; 640];
-    let mut found = [0u16; 640];
-    let width = size.width;
     let mut y = 0;
     let mut start = 0;
     while y < size.height {
-        let end = start + width;
+        let end = start + size.width;
+        let above = span_of(size, border, y, 0);
+        let below = span_of(size, border, y, 2);
+        let a = above.start;
+        let b = above.end;
+        let c = below.start;
+        let d = below.end;
         byte_row(
             &ends,
-            pixels,
-            size,
+            &pixels[a..b],
+            &pixels[start..end],
+            &pixels[c..d],
             border,
-            y,
-            &mut sums,
-            &mut found,
             &mut out[start..end],
         );
         start = end;

@@ -109,6 +109,14 @@ module _ {A : Type 0} where
       fill-to a (a + k) f g o l part (omega arith) (omega arith) (p .is) (subst (λ (m : ℕ). part ≡ filled m g (midOf a (a + k - a) l)) (sym e) q) (λ i m. r i (omega arith)) in
       record { within = b; same = ap length t ∙ length-filled (a + k) f o (omega arith); is = t }
 
+  -- a part that is filled whole
+  pub fill-whole : (a e : ℕ) (f g : ℕ → A) (o l : List A) {part : List A} → a ≤ e → e ≤ length o → l ≡ filled a f o
+      → part ≡ filled (length (midOf a (e - a) l)) g (midOf a (e - a) l) → ((i : ℕ) → a + i < e → g i ≡ f (a + i)) → putMid a (e - a) l part ≡ filled e f o
+  fill-whole a e f g o l {part} p h q m r =
+      let k : length l ≡ length o = ap length q ∙ length-filled a f o (omega arith) in
+      let n : length (midOf a (e - a) l) ≡ e - a = simp (length-take, length-drop) (omega arith) in
+      fill-to a e f g o l part p h q (rw n at m) (λ i w. r i (omega arith))
+
   -- an entry of such a part is still the one at entry
   pub mid-unread : (a k : ℕ) (f : ℕ → A) (o l : List A) (z : A) (i : ℕ) → l ≡ filled a f o → i < k → getD (midOf a k l) i z ≡ getD o (a + i) z
   mid-unread a k f o l z i p h =

@@ -15,6 +15,7 @@ pub mod Answers
 pub mod Demand
 pub mod Blurs
 pub mod Grid
+pub mod ByRows
 pub mod Border
 pub mod Sampling
 pub mod Signed
