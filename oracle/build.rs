@@ -1,8 +1,9 @@
-//! Brings the vendor's published texts into the build, unchanged, with accessors appended below them, and names the static library to
-//! link. Nothing of those texts is kept in the repository.
+//! Brings the vendor's published texts into the build, unchanged, with accessors appended below them, canny.rs a second time with two
+//! arms exchanged, and names the static library to link. Nothing of those texts is kept in the repository.
 
 use std::env;
 use std::fs;
+use std::ops::Range;
 use std::path::{Path, PathBuf};
 
 /// The folders and files whose text is compiled, by their place in the vendor's tree.
@@ -21,6 +22,11 @@ const TEXTS: [(&str, &str); 8] = [
 const LOOP_START: &str = "let mut magnitude = vec![0.0_f32; len];";
 const LOOP_END: &str = "// 4. Non-maximum suppression.";
 
+/// Where canny.rs chooses the two neighbours, and the two arms there whose bodies change places in the copy: of 45, and of all that is
+/// left, which is 135.
+const CHOICE: &str = "fn gradient_neighbors(";
+const ARMS: [&str; 2] = ["45 => {", "_ => {"];
+
 fn main() {
     println!("cargo:rerun-if-changed=build.rs");
     bring_texts();
@@ -38,13 +44,21 @@ fn bring_texts() {
         let mut modules = String::new();
         for (_, name) in TEXTS.iter().filter(|(of, _)| *of == group) {
             let text = read_text(&folder, group, name);
-            let whole = format!("{text}\n{}", appended(name, &text));
-            let file = out.join(format!("{group}_{name}.rs"));
-            write(&file, &whole);
-            modules += &format!("#[path = {:?}]\npub mod {name};\n", file);
+            let below = appended(name, &text);
+            modules += &module(&out, group, name, &text, &below);
+            if *name == "canny" {
+                modules += &module(&out, group, "canny_exchanged", &exchanged(&text), &below);
+            }
         }
         write(&out.join(format!("{group}.rs")), &modules);
     }
+}
+
+/// Writes a text with what stands below it as a module of its group, and answers the line that names the module.
+fn module(out: &Path, group: &str, name: &str, text: &str, below: &str) -> String {
+    let file = out.join(format!("{group}_{name}.rs"));
+    write(&file, &format!("{text}\n{below}"));
+    format!("#[path = {file:?}]\npub mod {name};\n")
 }
 
 /// The published text of one file, under its flattened name or at its place in a tree.
@@ -154,6 +168,30 @@ pub fn oracle_magnitude(gx: &[f32], gy: &[f32]) -> (Vec<f32>, Vec<f32>) {{
 }}
 "
     )
+}
+
+/// canny.rs with the bodies of the two diagonal arms exchanged, as document 02, item 2 wants them, and nothing else changed.
+fn exchanged(text: &str) -> String {
+    need(text, "canny", CHOICE);
+    let start = text.find(CHOICE).unwrap_or(0);
+    let end = text[start..].find("\n}").map_or(start, |length| start + length);
+    let [one, other] = ARMS.map(|arm| body(text, arm));
+    if one.start < start || other.start < one.end || end < other.end {
+        stop("canny.rs: the two diagonal arms do not stand where they did");
+    }
+    let between = &text[one.end..other.start];
+    [&text[..one.start], &text[other.clone()], between, &text[one.clone()], &text[other.end..]].concat()
+}
+
+/// Where the body of an arm stands, between its braces. It has no braces of its own.
+fn body(text: &str, arm: &str) -> Range<usize> {
+    need(text, "canny", arm);
+    let start = text.find(arm).unwrap_or(0) + arm.len();
+    let end = text[start..].find('}').map_or(start, |length| start + length);
+    if end == start || text[start..end].contains('{') {
+        stop(&format!("canny.rs: the body of `{arm}` is not as it was"));
+    }
+    start..end
 }
 
 /// Stops the build unless the text has exactly one place that reads so.

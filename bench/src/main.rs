@@ -1,5 +1,6 @@
-//! Times the proved library beside the vendor's published Rust, in turn and in one process, and prints the tables of docs/BENCH.md.
-//! Fails before it times anything of a pair whose two outputs differ. Built by `bench/run --beside OLD.a` it times two archives instead.
+//! Times the proved library beside the vendor's published Rust, its two diagonal arms exchanged, in turn and in one process, and prints
+//! the tables of docs/BENCH.md. Fails before it times anything of a pair whose two outputs differ. Built by `bench/run --beside OLD.a` it
+//! times two archives instead.
 
 mod beside;
 mod frames;
@@ -51,9 +52,11 @@ fn tables(wanted: &str) -> Result<String, String> {
     let stages = stages::rows(wanted)?;
     let whole = whole::rows(wanted)?;
     let growth = whole::growth(wanted)?;
+    let texts = whole::texts(wanted);
     let mut text = table::timed("The whole run, 640 by 480", &whole);
     text += &table::timed("Each stage, 640 by 480", &stages);
     text += &table::grown("Growth of the whole run, 9 taps, thresholds 50 and 100", &growth);
+    text += &table::compared("The vendor's untouched text and the copy with two arms exchanged", ("untouched", "exchanged"), &texts);
     text += &table::slower(&[&whole, &stages, &growth]);
     text += &whole::clearing();
     Ok(text)
@@ -64,8 +67,8 @@ fn two_archives(wanted: &str) -> Result<String, String> {
     let stages = stages::rows(wanted)?;
     let whole = whole::rows(wanted)?;
     let growth = whole::growth(wanted)?;
-    let mut text = table::compared("New beside old: the whole run, 640 by 480", &whole);
-    text += &table::compared("New beside old: each stage, 640 by 480", &stages);
-    text += &table::compared("New beside old: the whole run by size, 9 taps, thresholds 50 and 100", &growth);
+    let mut text = table::compared("New beside old: the whole run, 640 by 480", ("old", "new"), &whole);
+    text += &table::compared("New beside old: each stage, 640 by 480", ("old", "new"), &stages);
+    text += &table::compared("New beside old: the whole run by size, 9 taps, thresholds 50 and 100", ("old", "new"), &growth);
     Ok(text)
 }

@@ -4,7 +4,7 @@
 use std::hint::black_box;
 
 use silvestre_core::filters::box_blur::BoxBlurFilter;
-use silvestre_core::filters::canny::{oracle_hysteresis, oracle_magnitude, oracle_non_maximum_suppression};
+use silvestre_core::filters::canny_exchanged::{oracle_hysteresis, oracle_magnitude, oracle_non_maximum_suppression};
 use silvestre_core::filters::convolution::{apply_kernel, BorderMode, Kernel};
 use silvestre_core::filters::median::MedianFilter;
 use silvestre_core::filters::sharpen::SharpenFilter;

@@ -64,13 +64,13 @@ pub fn slower(tables: &[&[Row]]) -> String {
     text
 }
 
-/// Two archives: milliseconds of both, new over old, and its spread.
-pub fn compared(title: &str, rows: &[Row]) -> String {
+/// Two of one kind, by their names: milliseconds of both, the second over the first, and its spread.
+pub fn compared(title: &str, (first, second): (&str, &str), rows: &[Row]) -> String {
     if rows.is_empty() {
         return String::new();
     }
     let mut text = format!("\n### {title}\n\n");
-    text += "| what | frame | old, ms | new, ms | new / old | spread | rounds |\n";
+    text += &format!("| what | frame | {first}, ms | {second}, ms | {second} / {first} | spread | rounds |\n");
     text += "|---|---|---:|---:|---:|---:|---:|\n";
     for row in rows {
         let (low, high) = row.times.spread();

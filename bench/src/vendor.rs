@@ -1,6 +1,8 @@
-//! The vendor's filters, made before the clock starts, and its answers as this bench compares them.
+//! The vendor's filters, made before the clock starts, and its answers as this bench compares them. Of canny.rs it is the copy with the
+//! two diagonal arms exchanged; the untouched text is there for one row.
 
-use silvestre_core::filters::canny::CannyFilter;
+use silvestre_core::filters::canny;
+use silvestre_core::filters::canny_exchanged::CannyFilter;
 use silvestre_core::filters::gaussian::{oracle_taps_of, GaussianFilter};
 use silvestre_core::filters::Filter;
 use silvestre_core::SilvestreImage;
@@ -26,6 +28,11 @@ pub fn taps(count: usize, sigma: f32) -> Result<Vec<f32>, String> {
 /// The vendor's whole run.
 pub fn canny(sigma: f32, thresholds: (f32, f32)) -> CannyFilter {
     CannyFilter::new(thresholds.0, thresholds.1, sigma).expect("thresholds that the vendor takes")
+}
+
+/// The same by the untouched text.
+pub fn untouched_canny(sigma: f32, thresholds: (f32, f32)) -> canny::CannyFilter {
+    canny::CannyFilter::new(thresholds.0, thresholds.1, sigma).expect("thresholds that the vendor takes")
 }
 
 /// What a filter makes of a picture; it takes every picture of this bench.

@@ -1,11 +1,12 @@
 //! The whole run beside the vendor's: every frame, tap count and pair of thresholds at 640 by 480, and how it grows with the picture.
+//! Then the vendor's two texts of it beside each other.
 
 use std::hint::black_box;
 
 use crate::frames::{Frame, NAMES};
 use crate::lent::Lent;
 use crate::pairs::{Desk, Row};
-use crate::timing::{median, span};
+use crate::timing::{alternate, median, span};
 use crate::vendor;
 
 pub const THRESHOLDS: [(f32, f32); 2] = [(20.0, 60.0), (50.0, 100.0)];
@@ -68,6 +69,25 @@ fn run(desk: &mut Desk, what: &str, rounds: usize, taps: (usize, f32), threshold
             edges.pixels() == lent.out && lent.count == count && lent.scratch_is_clear()
         },
     )
+}
+
+/// The vendor's untouched text beside the copy with the two arms exchanged, which all other rows are compared with: one row, to show that
+/// they take the same time. It has more rounds, since the two are alike.
+pub fn texts(wanted: &str) -> Vec<Row> {
+    let frame = Frame::named("card-like", 640, 480);
+    let (count, sigma) = vendor::SIGMAS[1];
+    let (low, high) = THRESHOLDS[1];
+    let what = format!("whole run, {count} taps, {low} and {high}, the vendor's two texts");
+    if !what.contains(wanted) {
+        return Vec::new();
+    }
+    let (untouched, exchanged) = (vendor::untouched_canny(sigma, (low, high)), vendor::canny(sigma, (low, high)));
+    let first = || vendor::apply(&untouched, black_box(&frame.image));
+    let second = || vendor::apply(&exchanged, black_box(&frame.image));
+    // One untimed call of each, as in every row.
+    black_box((first(), second()));
+    let times = alternate(2 * ROUNDS, first, second);
+    vec![Row { what, frame: frame.name, sides: frame.sides(), times }]
 }
 
 /// A line on what it takes to put 0 into the whole run's scratch, by itself.

@@ -43,6 +43,8 @@ fn main() -> ExitCode {
         return write_vectors(wanted.plan.seed);
     }
     println!("seed {}, factor {}, {} threads", wanted.plan.seed, wanted.plan.factor, wanted.plan.threads);
+    println!("suppression and canny: compared with a copy of canny.rs in which the arms of 45 and 135 are exchanged (document 02, item 2);");
+    println!("the untouched text runs beside it, and must give the same wherever no inner pixel has a diagonal gradient");
     let since = Instant::now();
     let (sums, short) = stages::run_all(&wanted.plan);
     if short > 0 {

@@ -1,5 +1,5 @@
-//! Document 01 written once more in plain Rust, on its own: the refusal table of every call, the sector, the root's rules and the walk.
-//! Nothing here looks at the vendor's text or at our library.
+//! Document 01, with what document 02 changes, written once more in plain Rust, on its own: the refusal table of every call, the sector,
+//! the neighbours, the root's rules and the walk. Nothing here looks at the vendor's text or at our library.
 
 /// Document 01's limits.
 const SIDE: usize = 640;
@@ -132,7 +132,14 @@ pub fn sobel_byte(s: u32) -> u8 {
     (0..255u32).find(|n| s <= n * n + n).unwrap_or(255) as u8
 }
 
-/// Suppression by 01's table of neighbours, for gradients of any 16 bits.
+/// Whether an inner pixel has a diagonal gradient: sector 45 or 135.
+pub fn has_diagonal(gx: &[i16], gy: &[i16], width: usize, height: usize) -> bool {
+    let mut inner = (1..height.saturating_sub(1)).flat_map(|y| (1..width.saturating_sub(1)).map(move |x| y * width + x));
+    inner.any(|place| matches!(sector(gx[place], gy[place]), 45 | 135))
+}
+
+/// Suppression by the table of neighbours, for gradients of any 16 bits. The diagonal rows are those of document 02, item 2: 45 compares
+/// (-1,-1) with (1,1), 135 compares (1,-1) with (-1,1).
 pub fn suppression(magnitude: &[f32], gx: &[i16], gy: &[i16], width: usize, height: usize) -> Vec<f32> {
     let mut out = vec![0.0; width * height];
     for y in 1..height.saturating_sub(1) {
@@ -140,9 +147,9 @@ pub fn suppression(magnitude: &[f32], gx: &[i16], gy: &[i16], width: usize, heig
             let place = y * width + x;
             let step = match sector(gx[place], gy[place]) {
                 0 => 1,
-                45 => width - 1,
+                45 => width + 1,
                 90 => width,
-                _ => width + 1,
+                _ => width - 1,
             };
             let own = magnitude[place];
             if own >= magnitude[place - step] && own >= magnitude[place + step] {

@@ -120,6 +120,11 @@ pub fn gradient_pairs(count: usize, random: &mut Random) -> (Vec<i16>, Vec<i16>)
     (gx, gy)
 }
 
+/// The vendor's gradients, which are floats, as the whole numbers that they are.
+pub fn whole(floats: &[f32]) -> Vec<i16> {
+    floats.iter().map(|&f| f as i16).collect()
+}
+
 /// `count` magnitudes as floats of any bits may be lent: ordinary ones, ties, infinities and NaN.
 pub fn magnitudes(count: usize, random: &mut Random) -> Vec<f32> {
     let kind = random.below(5);

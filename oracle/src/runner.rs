@@ -31,6 +31,11 @@ pub trait Stage: Sync {
     fn count(&self, factor: usize) -> usize;
     fn case(&self, index: usize, random: &mut Random) -> Self::Case;
 
+    /// A line on what the cases have shown beside the comparison, if there is any, asked for once they are done.
+    fn told(&self) -> Option<String> {
+        None
+    }
+
     /// What the whole of the cases must have shown, asked for once they are done: one text for each thing that is missing.
     fn missing(&self) -> Vec<String> {
         Vec::new()
@@ -144,6 +149,10 @@ pub fn run<S: Stage>(stage: &S, stream: u64, plan: &Plan) -> Totals {
             scope.spawn(|| work.run());
         }
     });
+    // Asked before a difference is made smaller, which runs further cases.
+    if let Some(line) = stage.told() {
+        println!("{}: {line}", stage.name());
+    }
     let mut different = work.different.lock().expect("no thread has panicked").clone();
     different.sort_unstable();
     for (group, cases) in work.grouped(&different) {

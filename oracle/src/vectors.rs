@@ -1,11 +1,12 @@
 //! Writes a sample of the vendor's answers as a text of numbers, for a program that replays it against the proved crates without Rust.
+//! Suppression and the whole run are those of the copy of canny.rs with the diagonal arms exchanged.
 
 use std::fmt::Write;
 
 use crate::numbers;
 use crate::pictures::Picture;
 use crate::random::Random;
-use crate::vendor;
+use crate::vendor::{self, Text};
 
 /// Where the sample goes, seen from the folder of the oracle.
 const FILE: &str = "../crates/vectors_run/stdin";
@@ -31,7 +32,7 @@ struct Line {
 /// Writes the file and says how many cases it has.
 pub fn write(seed: u64) -> Result<usize, String> {
     let mut text = String::from("# A sample of the vendor's answers, stage by stage, made by `oracle/run vectors` from the published\n");
-    text += "# Rust and never from our library.\n";
+    text += "# Rust, with the two diagonal arms of canny.rs exchanged, and never from our library.\n";
     let _ = writeln!(text, "# Seed {seed}. Each line: stage, width, height, border, P, Q, three input lists and the expected list,");
     text += "# a list being its count and its numbers; f32 by bits (a NaN as 2143289344), i16 by its 16 bits.\n";
     let mut count = 0;
@@ -165,7 +166,7 @@ fn gradient(line: &mut Line, random: &mut Random) {
         }
         _ => {
             let lent = if random.once_in(2) { magnitude } else { numbers::magnitudes(n, random) };
-            line.expected = bits(&vendor::suppression(&lent, &gx, &gy, width, height));
+            line.expected = bits(&vendor::suppression(Text::Exchanged, &lent, &gx, &gy, width, height));
             line.inputs = [bits(&lent), lists[0].clone(), lists[1].clone()];
         }
     }
@@ -185,7 +186,7 @@ fn edges(line: &mut Line, picture: &Picture, random: &mut Random) {
     let sigma = numbers::sigma(random);
     line.inputs[0] = wide(&picture.pixels);
     line.inputs[1] = bits(&vendor::taps(sigma).expect("taps of an ordinary sigma"));
-    line.expected = wide(&vendor::canny(picture, sigma, low, high).expect("the vendor takes these"));
+    line.expected = wide(&vendor::canny(Text::Exchanged, picture, sigma, low, high).expect("the vendor takes these"));
 }
 
 fn wide(values: &[u8]) -> Vec<u32> {

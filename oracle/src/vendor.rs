@@ -1,8 +1,10 @@
 //! The vendor's filters as the oracle calls them: plain numbers in, plain lists out, and nothing where the vendor gives an error.
+//! What compares along a diagonal, suppression and the whole run, is there by either text of canny.rs.
 
 use silvestre_core::effects::grayscale::to_grayscale;
 use silvestre_core::filters::box_blur::BoxBlurFilter;
 use silvestre_core::filters::canny::{self, CannyFilter};
+use silvestre_core::filters::canny_exchanged;
 use silvestre_core::filters::convolution::{self, BorderMode, Kernel, SeparableKernel};
 use silvestre_core::filters::gaussian::{self, GaussianFilter};
 use silvestre_core::filters::median::MedianFilter;
@@ -12,6 +14,13 @@ use silvestre_core::filters::Filter;
 use silvestre_core::{ColorSpace, Result, SilvestreImage};
 
 use crate::pictures::Picture;
+
+/// canny.rs as it was published, or the copy in which the two diagonal arms are exchanged, with which ours is compared.
+#[derive(Clone, Copy)]
+pub enum Text {
+    Untouched,
+    Exchanged,
+}
 
 fn mode(border: u8) -> BorderMode {
     match border {
@@ -108,9 +117,16 @@ pub fn sector(direction: f32) -> u8 {
     canny::oracle_normalize_angle(direction)
 }
 
-pub fn suppression(magnitude: &[f32], gx: &[i16], gy: &[i16], width: usize, height: usize) -> Vec<f32> {
+pub fn suppression(text: Text, magnitude: &[f32], gx: &[i16], gy: &[i16], width: usize, height: usize) -> Vec<f32> {
     let direction = self::magnitude(gx, gy).1;
-    canny::oracle_non_maximum_suppression(magnitude, &direction, width, height)
+    thinned(text, magnitude, &direction, width, height)
+}
+
+fn thinned(text: Text, magnitude: &[f32], direction: &[f32], width: usize, height: usize) -> Vec<f32> {
+    match text {
+        Text::Untouched => canny::oracle_non_maximum_suppression(magnitude, direction, width, height),
+        Text::Exchanged => canny_exchanged::oracle_non_maximum_suppression(magnitude, direction, width, height),
+    }
 }
 
 pub fn hysteresis(magnitudes: &[f32], width: usize, height: usize, low: f32, high: f32) -> Vec<u8> {
@@ -118,20 +134,28 @@ pub fn hysteresis(magnitudes: &[f32], width: usize, height: usize, low: f32, hig
 }
 
 /// The vendor's whole run.
-pub fn canny(picture: &Picture, sigma: f32, low: f32, high: f32) -> Option<Vec<u8>> {
-    bytes(CannyFilter::new(low, high, sigma).ok()?.apply(&image(picture)))
+pub fn canny(text: Text, picture: &Picture, sigma: f32, low: f32, high: f32) -> Option<Vec<u8>> {
+    match text {
+        Text::Untouched => bytes(CannyFilter::new(low, high, sigma).ok()?.apply(&image(picture))),
+        Text::Exchanged => bytes(canny_exchanged::CannyFilter::new(low, high, sigma).ok()?.apply(&image(picture))),
+    }
 }
 
 /// The vendor's stages one after another as its whole run has them, with taps of any kind.
-pub fn canny_with_taps(picture: &Picture, taps: &[f32], low: f32, high: f32) -> Option<Vec<u8>> {
+pub fn canny_with_taps(text: Text, picture: &Picture, taps: &[f32], low: f32, high: f32) -> Option<Vec<u8>> {
+    let (gx, gy) = gradients_of_run(picture, taps)?;
+    let (magnitude, direction) = canny::oracle_magnitude(&gx, &gy);
+    let thin = thinned(text, &magnitude, &direction, picture.width, picture.height);
+    Some(hysteresis(&thin, picture.width, picture.height, low, high))
+}
+
+/// The gradients inside a whole run: the picture made grey, blurred and given to Sobel, each clamped.
+pub fn gradients_of_run(picture: &Picture, taps: &[f32]) -> Option<(Vec<f32>, Vec<f32>)> {
     let clamp = BorderMode::Clamp;
     let kernel = SeparableKernel::new(taps.to_vec(), taps.to_vec()).ok()?;
     let gray = to_grayscale(&image(picture)).ok()?;
     let blurred = convolution::apply_separable_kernel(&gray, &kernel, clamp).ok()?;
-    let (gx, gy) = sobel::oracle_sobel_gradients(&blurred, clamp);
-    let (magnitude, direction) = canny::oracle_magnitude(&gx, &gy);
-    let thin = canny::oracle_non_maximum_suppression(&magnitude, &direction, picture.width, picture.height);
-    Some(canny::oracle_hysteresis(&thin, picture.width, picture.height, low, high))
+    Some(sobel::oracle_sobel_gradients(&blurred, clamp))
 }
 
 fn floats(values: &[i16]) -> Vec<f32> {

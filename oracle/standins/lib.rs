@@ -15,7 +15,7 @@ pub mod effects {
     include!(concat!(env!("OUT_DIR"), "/effects.rs"));
 }
 
-/// The root of the filters: the trait and the seven texts.
+/// The root of the filters: the trait, the seven texts, and the copy of canny.rs with two arms exchanged.
 pub mod filters {
     use crate::{Result, SilvestreImage};
 

@@ -11,7 +11,7 @@ use borrow.Author.Tests.{ne-eqb}
 use Rattle.rules.specs.Picture.{area, tabulate, filled, cleared, tally}
 use Rattle.rules.specs.Sums.{plusZero}
 use Rattle.rules.specs.Refusals.{first, Scratch, scratch, runRows, startRows}
-use Rattle.rules.specs.Run.{suppressedOf, edgesOf, runEdges, countOf, canny, Roomy}
+use Rattle.rules.specs.Run.{suppressedUnder, suppressedOf, edgesOf, runEdges, countOf, canny, Roomy}
 use Rattle.rules.specs.declared.Size.{Size}
 use Rattle.rules.specs.declared.Thresholds.{Thresholds}
 use Rattle.rules.proofs.Fill.{length-tabulate, length-filled, filled-at, take-filled, drop-filled, tabulate-getD}
@@ -62,7 +62,7 @@ module _ (d : Size) (pixels : List ℕ) (taps : List Float) (t : Thresholds) (s 
 
   -- a walk over the suppressed magnitudes is accepted
   suppressed-long : length (suppressedOf d pixels taps) ≡ area d
-  unfolding suppressedOf
+  unfolding suppressedUnder
   suppressed-long = length-tabulate (area d) _
 
   pub startable : first (startRows d t (suppressedOf d pixels taps) (s .marks) (s .stack)) ≡ 0

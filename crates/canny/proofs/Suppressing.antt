@@ -13,7 +13,7 @@ use Rattle.rules.specs.Gradient.{gxTable, gyTable, gradientAt}
 use Rattle.rules.specs.Suppression.{suppressedAt}
 use Rattle.rules.specs.Refusals.{first, blurRows, gradientRows, magnitudeRows, suppressionRows}
 use Rattle.rules.specs.Calls.{painted, gaussianBlur, sobelGradients, gradientMagnitude, nonMaximumSuppression, magnitudeAt}
-use Rattle.rules.specs.Run.{blurredOf, componentOf, magnitudesOf, suppressedOf}
+use Rattle.rules.specs.Run.{blurredOf, componentOf, magnitudesOf, suppressedUnder}
 use Rattle.rules.specs.declared.Size.{Size}
 use Rattle.rules.specs.declared.BorderMode.the-variants.{Clamp}
 use Rattle.rules.proofs.Fill.{length-tabulate, length-filled, getD-tabulate, take-filled, drop-filled, first-part, refill}
@@ -140,7 +140,7 @@ module _ {d : Size} {pixels : List ℕ} {taps work magnitude : List Float} {gx g
               ∙ ap₂ (λ x y. painted d (suppressedAt d (M d pixels taps) x y) work') gx-lent gy-lent
 
           pub all-stages : Suppressed d pixels taps work magnitude gx gy blurred work'' magnitude' gx' gy' blurred'
-          unfolding suppressedOf
+          unfolding suppressedUnder suppressedAt
           all-stages =
               record {
                 is = refill (area d) _ _ _ work work' work'' work-is suppressed-is (λ i l. sym (getD-tabulate (area d) _ nan i l));

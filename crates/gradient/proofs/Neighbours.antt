@@ -39,9 +39,9 @@ row-before y w h = let e : y - 1 + 1 ≡ y = omega arith in omega (arith, ap (λ
 
 module _ (P : Offset × Offset → Type 0)
     (p0 : P (offset (negsuc 0) (pos 0), offset (pos 1) (pos 0)))
-    (p45 : P (offset (pos 1) (negsuc 0), offset (negsuc 0) (pos 1)))
+    (p45 : P (offset (negsuc 0) (negsuc 0), offset (pos 1) (pos 1)))
     (p90 : P (offset (pos 0) (negsuc 0), offset (pos 0) (pos 1)))
-    (p135 : P (offset (negsuc 0) (negsuc 0), offset (pos 1) (pos 1))) where
+    (p135 : P (offset (pos 1) (negsuc 0), offset (negsuc 0) (pos 1))) where
   pick : (b : Bool) (x y : Offset × Offset) → P x → P y → P (cond b x y)
   pick true x y p q = p
   pick false x y p q = q
@@ -69,9 +69,9 @@ opposite m w x y l h k =
     let down = add-mul y 1 w in
     rows (Opposite m w x y)
     (record { first = read-at m (simp (back x h) (omega arith)); second = read-at m (omega arith) })
-    (record { first = read-at m (simp (back y k) (omega arith)); second = read-at m (simp (back x h) (omega arith)) })
-    (record { first = read-at m (simp (back y k) (omega arith)); second = read-at m (omega arith) })
     (record { first = read-at m (simp (back x h, back y k) (omega arith)); second = read-at m (omega arith) })
+    (record { first = read-at m (simp (back y k) (omega arith)); second = read-at m (omega arith) })
+    (record { first = read-at m (simp (back y k) (omega arith)); second = read-at m (simp (back x h) (omega arith)) })
 
 -- what the code does at pixel i, whose components go by their bits: the offset of its first neighbour, and the two magnitudes that it chooses
 pub kept-is : (w : ℕ) (m : List Float) (gx gy : List ℤ) (i : ℕ) {sector : ℕ} {o : Offset} {a b r : Float}

@@ -1,4 +1,4 @@
-// The sector of a gradient, and the step to the neighbour that it chooses (01.Gradient.7 to 01.Gradient.17).
+// The sector of a gradient, and the step to the neighbour that it chooses (01.Gradient.7 to 01.Gradient.17, 02.2.3).
 ghost use mathlib.Core.Path.{_≡_};
 ghost use Rattle.rules.specs.Sector.{sectorOf, offset, neighbours};
 ghost use Rattle.pixel.specs.Sizes.{AbsoluteOf};
@@ -36,14 +36,14 @@ pub struct Offset {
     pub dy: i8,
 }
 
-// The first neighbour of a sector, as 01's table has it; the second is its opposite (01.Gradient.13 to 01.Gradient.17).
+// The first neighbour of a sector, as the table has it; the second is its opposite (01.Gradient.13 to 01.Gradient.17, 02.2.3).
 pub fn first_neighbour(sector: u8) -> Offset
     ensures { λ r. ⌜ offset (r .dx) (r .dy) ≡ neighbours sector .0 ⌝ }
 {
     match sector {
         0 => Offset { dx: -1, dy: 0 },
-        45 => Offset { dx: 1, dy: -1 },
+        45 => Offset { dx: -1, dy: -1 },
         90 => Offset { dx: 0, dy: -1 },
-        _ => Offset { dx: -1, dy: -1 },
+        _ => Offset { dx: 1, dy: -1 },
     }
 }

@@ -16,6 +16,7 @@ pub mod Demand
 pub mod Blurs
 pub mod Grid
 pub mod ByRows
+pub mod Diagonals
 pub mod Border
 pub mod Sampling
 pub mod Signed

@@ -18,7 +18,7 @@ use Rattle.rules.specs.Median.{medianAt, windowAt, sorted, insert, occur
 use Rattle.rules.specs.Gradient.{gradientAt, gradientTerm, sumZ}
 use Rattle.rules.specs.Root.{magnitudeOf, rootOf, nearRoot, wholeRoot, sobelByte, leastFrom}
 use Rattle.rules.specs.Sector.{sectorOf, neighbours}
-use Rattle.rules.specs.Suppression.{suppressedBy, suppressedAt}
+use Rattle.rules.specs.Suppression.{Table, suppressedBy, suppressedAt}
 use Rattle.rules.specs.Walk.{state, atLeast, started, classed, class, sliced, takes, taken, pop, looks, visit, look, unusable}
 use Rattle.rules.specs.Refusals.{Rule, first, Scratch, sideRow, oneSideRow, countRow, weightRow, thresholdRow, orderRow}
 use Rattle.rules.specs.Refusals.{kernelRows, separableRows, blurRows, boxRows, plainRows, medianRows, gradientRows, magnitudeRows}
@@ -27,7 +27,8 @@ use Rattle.rules.specs.Calls as Calls
 use Rattle.rules.specs.Calls.{resolveCoord, afterStart, applyKernel, applySeparableKernel, gaussianBlur, boxBlur, sharpen, median, sobelGradients}
 use Rattle.rules.specs.Calls.{sobelAt, sobel, magnitudeAt, gradientMagnitude, nonMaximumSuppression, afterSlice, sliceTakes}
 use Rattle.rules.specs.Joined.{joinedCount, told, closed, grown}
-use Rattle.rules.specs.Run.{blurredOf, componentOf, magnitudesOf, suppressedOf, edgesOf, endOf, countOf, runEdges, canny}
+use Rattle.rules.specs.Run.{blurredOf, componentOf, magnitudesOf, suppressedUnder, edgesOf, endOf, countOf, runEdges, canny}
+use Rattle.rules.specs.Diagonals.{vendorNeighbours, anyDiagonal, anyDiagonalIn}
 use Rattle.rules.specs.Frame.{breach, frameTaps, framePixels, decimalBy, decimal, refusedText, edgesText, rowsText, runText, printout}
 use Rattle.rules.specs.declared.Size.{Size}
 use Rattle.rules.specs.declared.Kernel.{Kernel}
@@ -340,9 +341,9 @@ looked x y i j =
 abbrev suppressed : List Example
 suppressed =
     ex (looked (pos 1) (pos 0) 5 7) (0x40a0_0000 ∷ 0 ∷ 0 ∷ 0 ∷ 0 ∷ [])
-    ∷ ex (looked (pos 1) (pos 1) 3 9) (0x40a0_0000 ∷ 0 ∷ 0 ∷ 0 ∷ 0 ∷ [])
+    ∷ ex (looked (pos 1) (pos 1) 1 11) (0x40a0_0000 ∷ 0 ∷ 0 ∷ 0 ∷ 0 ∷ [])
     ∷ ex (looked (pos 0) (pos 1) 2 10) (0x40a0_0000 ∷ 0 ∷ 0 ∷ 0 ∷ 0 ∷ [])
-    ∷ ex (looked (pos 1) (negsuc 0) 1 11) (0x40a0_0000 ∷ 0 ∷ 0 ∷ 0 ∷ 0 ∷ [])
+    ∷ ex (looked (pos 1) (negsuc 0) 3 9) (0x40a0_0000 ∷ 0 ∷ 0 ∷ 0 ∷ 0 ∷ [])
     -- NaN elsewhere is not looked at; a pixel that is NaN goes
     ∷ ex (kept (pos 1) (pos 0) 5 7 (wholeF32 (pos 5)) nan ∷ []) (0x40a0_0000 ∷ [])
     ∷ ex (shownFloats (nonMaximumSuppression (sides 3 3) (tabulate 9 (λ i. nan)) (fromZ 1 9) (fromZ 1 9) (fromF 301 9))) (0 ∷ 0 ∷ 0 ∷ 0 ∷ 0 ∷ 0 ∷ 0 ∷ 0 ∷ 0 ∷ 0 ∷ [])
@@ -594,9 +595,9 @@ scratchShown s =
 abbrev shownRun : Counted × (List ℕ × Scratch) → List ℕ
 shownRun a = a .0 .refusal ∷ a .0 .count ∷ (a .1 .0 ++ scratchShown (a .1 .1))
 
--- a picture that Mirror or Zero in the blur, or in Sobel, gives other edges
+-- a picture that Mirror or Zero in the blur, or in Sobel, gives other edges, and so does the vendor's neighbour table
 abbrev card : List ℕ
-card = 80 ∷ 20 ∷ 80 ∷ 20 ∷ 80 ∷ 80 ∷ 0 ∷ 20 ∷ 40 ∷ 0 ∷ 10 ∷ 60 ∷ 20 ∷ 10 ∷ 80 ∷ []
+card = 80 ∷ 30 ∷ 40 ∷ 80 ∷ 80 ∷ 80 ∷ 20 ∷ 20 ∷ 0 ∷ 0 ∷ 10 ∷ 20 ∷ 40 ∷ 20 ∷ 80 ∷ []
 
 -- taps of 1/4, 1/2, 1/4; each buffer from a number of its own on, n entries long
 abbrev quarters : List ℕ
@@ -631,8 +632,41 @@ runs =
     ∷ []
 
 runs-hold : Hold runs
-unfolding blurredOf componentOf magnitudesOf suppressedOf suppressedBy suppressedAt edgesOf endOf countOf runEdges canny separableAt kernelSum kernelTerm sampleAt orderedSum toByte add mul ofInt ofBits gradientAt gradientTerm sumZ magnitudeAt magnitudeOf rootOf nearRoot wholeRoot odd sectorOf neighbours afterStart started classed class sliced taken pop looks visit look le lt anyBelow tally tabulate toBits
+unfolding blurredOf componentOf magnitudesOf suppressedUnder suppressedBy edgesOf endOf countOf runEdges canny separableAt kernelSum kernelTerm sampleAt orderedSum toByte add mul ofInt ofBits gradientAt gradientTerm sumZ magnitudeAt magnitudeOf rootOf nearRoot wholeRoot odd sectorOf neighbours afterStart started classed class sliced taken pop looks visit look le lt anyBelow tally tabulate toBits
 runs-hold = refl
+
+-- ---- the diagonals (02.2): both tables' rows, and where a diagonal gradient counts
+
+abbrev steps : Table → ℕ → List ℕ
+steps table sector =
+    let n = table sector in
+    words (n .0 .dx ∷ n .0 .dy ∷ n .1 .dx ∷ n .1 .dy ∷ [])
+
+-- the pixels of 01's frame, 5 by 4 (01.Frame.8)
+abbrev step : List ℕ
+step = 0 ∷ 0 ∷ 50 ∷ 50 ∷ 50 ∷ 0 ∷ 0 ∷ 50 ∷ 50 ∷ 50 ∷ 0 ∷ 0 ∷ 50 ∷ 50 ∷ 50 ∷ 0 ∷ 0 ∷ 50 ∷ 50 ∷ 50 ∷ []
+
+-- 4 by 3, where only pixel i has a gradient
+abbrev diagonal : ℕ → ℤ → ℤ → ℕ
+diagonal i x y = bit (anyDiagonal (sides 4 3) (tabulate 12 (λ k. cond (eqb k i) x (pos 0))) (tabulate 12 (λ k. cond (eqb k i) y (pos 0))))
+
+abbrev diagonals : List Example
+diagonals =
+    ex (steps neighbours 0 ++ (steps neighbours 45 ++ (steps neighbours 90 ++ steps neighbours 135)))
+    (65535 ∷ 0 ∷ 1 ∷ 0 ∷ 65535 ∷ 65535 ∷ 1 ∷ 1 ∷ 0 ∷ 65535 ∷ 0 ∷ 1 ∷ 1 ∷ 65535 ∷ 65535 ∷ 1 ∷ [])
+    -- 01's (01.Gradient.14 to 01.Gradient.17)
+    ∷ ex (steps vendorNeighbours 0 ++ (steps vendorNeighbours 45 ++ (steps vendorNeighbours 90 ++ steps vendorNeighbours 135)))
+    (65535 ∷ 0 ∷ 1 ∷ 0 ∷ 1 ∷ 65535 ∷ 65535 ∷ 1 ∷ 0 ∷ 65535 ∷ 0 ∷ 1 ∷ 65535 ∷ 65535 ∷ 1 ∷ 1 ∷ [])
+    -- the inner pixel 6, and pixels in the outer columns and rows; a gradient that is not diagonal
+    ∷ ex (diagonal 6 (pos 1) (pos 1) ∷ diagonal 6 (pos 1) (negsuc 0) ∷ diagonal 6 (pos 1) (pos 0) ∷ diagonal 6 (pos 0) (pos 1) ∷ []) (1 ∷ 1 ∷ 0 ∷ 0 ∷ [])
+    ∷ ex (diagonal 4 (pos 1) (pos 1) ∷ diagonal 7 (pos 1) (pos 1) ∷ diagonal 2 (pos 1) (pos 1) ∷ diagonal 9 (pos 1) (pos 1) ∷ []) (0 ∷ 0 ∷ 0 ∷ 0 ∷ [])
+    -- 01's frame has none, so that it keeps its bytes (02.2.5); the run above has
+    ∷ ex (bit (anyDiagonalIn (sides 5 4) step (wholes (1 ∷ []))) ∷ bit (anyDiagonalIn (sides 5 3) card (floats quarters)) ∷ []) (0 ∷ 1 ∷ [])
+    ∷ []
+
+diagonals-hold : Hold diagonals
+unfolding neighbours vendorNeighbours anyDiagonal anyDiagonalIn sectorOf blurredOf componentOf separableAt kernelSum kernelTerm sampleAt orderedSum toByte add mul ofInt ofBits gradientAt gradientTerm sumZ odd le lt anyBelow tabulate
+diagonals-hold = refl
 
 -- ---- frame files
 
@@ -643,12 +677,9 @@ bytesOf n = n % 256 ∷ n / 256 % 256 ∷ n / 65536 % 256 ∷ n / 16777216 ∷ [
 abbrev fileOf : List ℕ → List ℕ → List ℕ → List ℕ
 fileOf header taps pixels = flat (map bytesOf header) ++ (flat (map bytesOf taps) ++ pixels)
 
--- 01's frame: low 50, high 100, one tap of 1, four rows of 0 0 50 50 50
+-- 01's frame: low 50, high 100, one tap of 1, and the pixels
 abbrev header : List ℕ
 header = 5 ∷ 4 ∷ 1 ∷ 32 ∷ 36 ∷ 0x4248_0000 ∷ 0x42c8_0000 ∷ 56 ∷ []
-
-abbrev step : List ℕ
-step = 0 ∷ 0 ∷ 50 ∷ 50 ∷ 50 ∷ 0 ∷ 0 ∷ 50 ∷ 50 ∷ 50 ∷ 0 ∷ 0 ∷ 50 ∷ 50 ∷ 50 ∷ 0 ∷ 0 ∷ 50 ∷ 50 ∷ 50 ∷ []
 
 abbrev framed : List ℕ → List ℕ
 framed h = fileOf h (0x3f80_0000 ∷ []) step
@@ -697,13 +728,13 @@ frames =
     ∷ []
 
 frames-hold : Hold frames
-unfolding blurredOf componentOf magnitudesOf suppressedOf suppressedBy suppressedAt edgesOf endOf countOf runEdges canny separableAt kernelSum kernelTerm sampleAt orderedSum toByte add mul ofInt ofBits gradientAt gradientTerm sumZ magnitudeAt magnitudeOf rootOf nearRoot wholeRoot odd sectorOf neighbours afterStart started classed class sliced taken pop looks visit look le lt anyBelow tally tabulate breach frameTaps framePixels decimalBy decimal refusedText edgesText rowsText runText printout
+unfolding blurredOf componentOf magnitudesOf suppressedUnder suppressedBy edgesOf endOf countOf runEdges canny separableAt kernelSum kernelTerm sampleAt orderedSum toByte add mul ofInt ofBits gradientAt gradientTerm sumZ magnitudeAt magnitudeOf rootOf nearRoot wholeRoot odd sectorOf neighbours afterStart started classed class sliced taken pop looks visit look le lt anyBelow tally tabulate breach frameTaps framePixels decimalBy decimal refusedText edgesText rowsText runText printout
 frames-hold = refl
 
 -- ---- THE LIST OF SLIPS, by subject
 
 unfoldable pub slips : List (List Example)
-slips = borders ∷ sums ∷ filters ∷ gradients ∷ suppressed ∷ walks ∷ tests ∷ tables ∷ runs ∷ frames ∷ []
+slips = borders ∷ sums ∷ filters ∷ gradients ∷ suppressed ∷ walks ∷ tests ∷ tables ∷ runs ∷ diagonals ∷ frames ∷ []
 
 abbrev pub Every : List (List Example) → Type 0
 Every [] = Unit
@@ -713,5 +744,5 @@ pub slips-hold : Every slips
 unfolding slips
 slips-hold = (
   borders-hold,
-  (sums-hold, (filters-hold, (gradients-hold, (suppressed-hold, (walks-hold, (tests-hold, (tables-hold, (runs-hold, (frames-hold, tt))))))))),
+  (sums-hold, (filters-hold, (gradients-hold, (suppressed-hold, (walks-hold, (tests-hold, (tables-hold, (runs-hold, (diagonals-hold, (frames-hold, tt)))))))))),
 )

@@ -15,6 +15,7 @@ pub mod Refusals
 pub mod Calls
 pub mod Joined
 pub mod Run
+pub mod Diagonals
 pub mod Demand
 pub mod Frame
 pub mod Examples

@@ -9,7 +9,8 @@ use Rattle.rules.specs.Picture.{area, tabulate, zeros, inRowOrder, fille
 use Rattle.rules.specs.Sums.{plusZero}
 use Rattle.rules.specs.Filters.{separableAt, bothWays}
 use Rattle.rules.specs.Gradient.{gxTable, gyTable, gradientAt}
-use Rattle.rules.specs.Suppression.{suppressedAt}
+use Rattle.rules.specs.Sector.{neighbours}
+use Rattle.rules.specs.Suppression.{Table, floats, suppressedBy}
 use Rattle.rules.specs.Walk.{State, sliced, edge}
 use Rattle.rules.specs.Accepted.{Room}
 use Rattle.rules.specs.Refusals.{first, runRows, Scratch}
@@ -29,13 +30,17 @@ componentOf table d blurred = inRowOrder d (gradientAt table d Clamp blurred)
 unfoldable pub magnitudesOf : Size → List ℤ → List ℤ → List Float
 magnitudesOf d gx gy = tabulate (area d) (magnitudeAt gx gy)
 
-unfoldable pub suppressedOf : Size → List ℕ → List Float → List Float
-suppressedOf d pixels taps =
+-- the last of them by any neighbour table
+unfoldable pub suppressedUnder : Table → Size → List ℕ → List Float → List Float
+suppressedUnder table d pixels taps =
     let blurred = blurredOf d pixels taps in
     let gx = componentOf gxTable d blurred in
     let gy = componentOf gyTable d blurred in
     let magnitudes = magnitudesOf d gx gy in
-    inRowOrder d (suppressedAt d magnitudes gx gy)
+    inRowOrder d (suppressedBy floats table d magnitudes gx gy)
+
+abbrev pub suppressedOf : Size → List ℕ → List Float → List Float
+suppressedOf = suppressedUnder neighbours
 
 -- A walk to its end, from a start over empty buffers. Each take finishes a pixel, so a budget of width * height + 1 ends it; the one more
 -- keeps a picture of no pixels from being refused 8.

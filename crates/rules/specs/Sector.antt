@@ -1,4 +1,4 @@
--- The sector of a gradient, by squares, and the neighbours that it chooses (01.Gradient.7 to 01.Gradient.17).
+-- The sector of a gradient, by squares, and the neighbours that it chooses (01.Gradient.7 to 01.Gradient.17, with 02.2.3's diagonals).
 use Prim.Native.Nat.{ℕ, _+_, _*_}
 use mathlib.Core.Bool.{cond, _&&_, Bool·beq}
 use lib.Dec.{ltb, eqb}
@@ -26,14 +26,14 @@ pub record Offset : Type 0 where
 abbrev pub offset : ℤ → ℤ → Offset
 offset x y = record { dx = x; dy = y }
 
--- THE NEIGHBOUR TABLE, the only place that says which two neighbours a sector compares.
--- Its diagonal rows are the Rust's (01.Gradient.20).
+-- THE NEIGHBOUR TABLE, the only place that says which two neighbours a sector compares. Its diagonal rows are 02.2.3's: y runs downwards, so
+-- a gradient of equal signs, sector 45, points along (1,1).
 unfoldable pub neighbours : ℕ → Offset × Offset
 neighbours sector =
     let o = pos 0 in
     let l = negsuc 0 in
     let r = pos 1 in
     cond (eqb sector 0) (offset l o, offset r o)
-    (cond (eqb sector 45) (offset r l, offset l r)
+    (cond (eqb sector 45) (offset l l, offset r r)
     (cond (eqb sector 90) (offset o l, offset o r)
-    (offset l l, offset r r)))
+    (offset r l, offset l r)))

@@ -22,6 +22,10 @@ pub record Values (A : Type 0) : Type 0 where
   pub atMost : A → A → Bool
   pub none : A
 
+-- any neighbour table: `neighbours` is the one, and another can be held against it (specs/Diagonals)
+abbrev pub Table : Type 0
+Table = ℕ → Offset × Offset
+
 module _ {A : Type 0} (v : Values A) where
   -- the value at a step from an inner pixel
   abbrev pub beside : Size → List A → ℕ → ℕ → Offset → A
@@ -32,11 +36,11 @@ module _ {A : Type 0} (v : Values A) where
   keeps m a b = v .atMost a m && v .atMost b m
 
   -- what stands at (x, y) afterwards
-  unfoldable pub suppressedBy : Size → List A → List ℤ → List ℤ → ℕ → ℕ → A
-  suppressedBy d values gx gy x y =
+  unfoldable pub suppressedBy : Table → Size → List A → List ℤ → List ℤ → ℕ → ℕ → A
+  suppressedBy table d values gx gy x y =
       let i = y * d .width + x in
       let m = getD values i (v .none) in
-      let n = neighbours (sectorOf (getD gx i (pos 0)) (getD gy i (pos 0))) in
+      let n = table (sectorOf (getD gx i (pos 0)) (getD gy i (pos 0))) in
       cond (inner d x y && keeps m (beside d values x y (n .0)) (beside d values x y (n .1))) m (v .zero)
 
 -- ---- of magnitudes
@@ -46,4 +50,4 @@ abbrev pub floats : Values Float
 floats = record { zero = plusZero; atMost = le; none = nan }
 
 unfoldable pub suppressedAt : Size → List Float → List ℤ → List ℤ → ℕ → ℕ → Float
-suppressedAt d magnitudes gx gy x y = suppressedBy floats d magnitudes gx gy x y
+suppressedAt d magnitudes gx gy x y = suppressedBy floats neighbours d magnitudes gx gy x y

@@ -1,17 +1,22 @@
-//! The whole run: the vendor's taps of a sigma beside its whole run, and taps of any kind beside its stages one after another.
+//! The whole run: the vendor's taps of a sigma beside its whole run, and taps of any kind beside its stages one after another, both with
+//! the diagonal arms exchanged.
 
 use crate::lent::Lent;
+use crate::model;
 use crate::numbers;
 use crate::ours::{self, Frame};
 use crate::pictures::{digits, list, Picture};
 use crate::random::Random;
 use crate::room::Room;
 use crate::runner::{Case, Stage};
-use crate::vendor;
+use crate::vendor::{self, Text};
 
+use super::untouched::Untouched;
 use super::{accepted, same_bytes, RANDOM};
 
 pub struct Canny;
+
+static UNTOUCHED: Untouched = Untouched::new();
 
 #[derive(Clone)]
 pub struct Run {
@@ -58,6 +63,10 @@ impl Stage for Canny {
         let sigma = if index == tiny { WIDEST } else { numbers::sigma(random) };
         Run { picture, taps: vendor::taps(sigma).expect("taps of an ordinary sigma"), sigma: Some(sigma), low, high }
     }
+
+    fn told(&self) -> Option<String> {
+        Some(UNTOUCHED.told("map"))
+    }
 }
 
 fn any_taps(random: &mut Random) -> Vec<f32> {
@@ -87,12 +96,13 @@ impl Case for Run {
         taps.unchanged("taps")?;
         room.zeroed(n)?;
         map.same_outside(n, "map")?;
-        same_bytes(map.first(n), self.vendors())?;
+        same_bytes(map.first(n), self.vendors(Text::Exchanged))?;
         let edges = map.first(n).iter().filter(|&&b| b == 255).count();
         if count != edges {
             return Err(format!("ours counts {count}, the map has {edges}"));
         }
-        Ok(1)
+        let untouched = self.vendors(Text::Untouched);
+        Ok(1 + UNTOUCHED.beside(untouched.as_deref() == Some(map.first(n)), self.has_diagonal())?)
     }
 
     fn smaller(&self) -> Vec<Run> {
@@ -106,10 +116,16 @@ impl Case for Run {
 }
 
 impl Run {
-    fn vendors(&self) -> Option<Vec<u8>> {
+    fn vendors(&self, text: Text) -> Option<Vec<u8>> {
         match self.sigma {
-            Some(sigma) => vendor::canny(&self.picture, sigma, self.low, self.high),
-            None => vendor::canny_with_taps(&self.picture, &self.taps, self.low, self.high),
+            Some(sigma) => vendor::canny(text, &self.picture, sigma, self.low, self.high),
+            None => vendor::canny_with_taps(text, &self.picture, &self.taps, self.low, self.high),
         }
+    }
+
+    /// Whether the gradients inside the run have a diagonal one at an inner pixel.
+    fn has_diagonal(&self) -> bool {
+        let (gx, gy) = vendor::gradients_of_run(&self.picture, &self.taps).expect("the vendor has run");
+        model::has_diagonal(&numbers::whole(&gx), &numbers::whole(&gy), self.picture.width, self.picture.height)
     }
 }

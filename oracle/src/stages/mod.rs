@@ -11,6 +11,7 @@ mod roots;
 mod sector;
 mod suppression;
 mod taps;
+mod untouched;
 mod walk;
 
 use crate::pictures::list;

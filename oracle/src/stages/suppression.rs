@@ -1,5 +1,6 @@
 //! non_maximum_suppression: every 3 by 3 of three magnitudes, magnitudes of real pictures, and lent floats of any bits; beside the
-//! vendor on gradients that a picture can have, and beside document 01's table on gradients of any 16 bits.
+//! vendor with the diagonal arms exchanged on gradients that a picture can have, and beside the table of document 02, item 2 on gradients
+//! of any 16 bits.
 
 use crate::lent::Lent;
 use crate::model;
@@ -8,11 +9,14 @@ use crate::ours;
 use crate::pictures::{self, cuts, digits, list, Cut, Picture};
 use crate::random::Random;
 use crate::runner::{Case, Stage};
-use crate::vendor;
+use crate::vendor::{self, Text};
 
+use super::untouched::Untouched;
 use super::{accepted, RANDOM};
 
 pub struct Suppression;
+
+static UNTOUCHED: Untouched = Untouched::new();
 
 #[derive(Clone)]
 pub struct Ridges {
@@ -58,13 +62,16 @@ impl Stage for Suppression {
         };
         Ridges { sides, magnitude: numbers::magnitudes(n, random), gx, gy, wide }
     }
+
+    fn told(&self) -> Option<String> {
+        Some(UNTOUCHED.told("answer"))
+    }
 }
 
 /// The vendor's own gradients and magnitudes of a picture.
 fn from_picture(picture: &Picture, random: &mut Random) -> Ridges {
     let (gx, gy) = vendor::sobel_gradients(picture, numbers::BORDERS[random.below(3)]);
-    let whole = |floats: Vec<f32>| floats.iter().map(|&f| f as i16).collect::<Vec<i16>>();
-    let (gx, gy) = (whole(gx), whole(gy));
+    let (gx, gy) = (numbers::whole(&gx), numbers::whole(&gy));
     Ridges { sides: picture.sides(), magnitude: vendor::magnitude(&gx, &gy).0, gx, gy, wide: false }
 }
 
@@ -82,11 +89,14 @@ impl Case for Ridges {
         gy.unchanged("gy")?;
         out.same_outside(n, "out")?;
         let by_rule = model::suppression(&self.magnitude, &self.gx, &self.gy, width, height);
-        same("01", out.first(n), &by_rule)?;
-        if !self.wide {
-            same("vendor", out.first(n), &vendor::suppression(&self.magnitude, &self.gx, &self.gy, width, height))?;
+        same("02.2", out.first(n), &by_rule)?;
+        if self.wide {
+            return Ok(1);
         }
-        Ok(1)
+        same("vendor, exchanged,", out.first(n), &self.vendors(Text::Exchanged))?;
+        let untouched = first_float(out.first(n), &self.vendors(Text::Untouched));
+        let diagonal = model::has_diagonal(&self.gx, &self.gy, width, height);
+        Ok(1 + UNTOUCHED.beside(untouched.is_none(), diagonal)?)
     }
 
     fn smaller(&self) -> Vec<Ridges> {
@@ -109,6 +119,12 @@ impl Case for Ridges {
             list(&self.gx),
             list(&self.gy)
         )
+    }
+}
+
+impl Ridges {
+    fn vendors(&self, text: Text) -> Vec<f32> {
+        vendor::suppression(text, &self.magnitude, &self.gx, &self.gy, self.sides.0, self.sides.1)
     }
 }
 
