@@ -1,5 +1,5 @@
-/* The demo of kelontsira.h: reads a PGM picture (P5, maxval 255, sides up to KELONTSIRA_MAX_SIDE), finds its edges, and writes them as a PGM
- * picture, white on black. All memory is static, as firmware would have it.
+/* The demo of kelontsira.h: reads a PGM picture (P5, maxval 255, sides up to 640), finds its edges, and writes them as a PGM picture, white
+ * on black. All memory is static, as firmware would have it.
  *
  *     edges SIGMA LOW HIGH IN.pgm OUT.pgm
  *
@@ -36,7 +36,7 @@ static const char *meaning_of(uint8_t refusal)
 {
     switch (refusal) {
     case KELONTSIRA_REFUSED_SIDE:
-        return PGM_TOO_LARGE;
+        return "the picture is too large: a side is over 640";
     case KELONTSIRA_REFUSED_INPUT:
         return "the picture does not have width times height pixels";
     case KELONTSIRA_REFUSED_COUNT:

@@ -5,14 +5,9 @@
 
 #include <stdio.h>
 
-/* A macro's value as text. */
-#define TEXT(value) #value
-#define TEXT_OF(macro) TEXT(macro)
-
-const char PGM_TOO_LARGE[] = "the picture is too large: a side is over " TEXT_OF(KELONTSIRA_MAX_SIDE);
-
 static const char NOT_PGM[] = "it is not a binary PGM picture (it does not begin with P5)";
 static const char BAD_HEADER[] = "its header is broken: P5, width, height and 255 are wanted, as whole numbers with space between them";
+static const char TOO_LARGE[] = "the picture is too large: a side is over 640";
 static const char BAD_MAXVAL[] = "its maxval is not 255, and no other is read";
 static const char TRUNCATED[] = "it ends before the picture does";
 static const char EXTRA[] = "there is something after the picture: a file of exactly one picture is wanted";
@@ -78,7 +73,7 @@ static const char *read_header(FILE *file, size_t *width, size_t *height)
         return BAD_HEADER;
     }
     if (*width > KELONTSIRA_MAX_SIDE || *height > KELONTSIRA_MAX_SIDE) {
-        return PGM_TOO_LARGE;
+        return TOO_LARGE;
     }
     return maxval == 255 ? NULL : BAD_MAXVAL;
 }

@@ -5,11 +5,8 @@
 #include <stddef.h>
 #include <stdint.h>
 
-/* What is said of a picture with a side over KELONTSIRA_MAX_SIDE. */
-extern const char PGM_TOO_LARGE[];
-
-/* Reads the one picture of a file, whose sides are at most KELONTSIRA_MAX_SIDE, into `pixels`, which has room for that many rows of as many
- * bytes. The answer is NULL, or what is wrong with the file; the sides are set only when it is NULL. */
+/* Reads the one picture of a file, whose sides are at most 640 (KELONTSIRA_MAX_SIDE), into `pixels`, which has room for 640 * 640 bytes.
+ * The answer is NULL, or what is wrong with the file; the sides are set only when it is NULL. */
 const char *pgm_read(const char *path, uint8_t *pixels, size_t *width, size_t *height);
 
 /* Writes a picture as a file. The answer is NULL, or what went wrong. */

@@ -1,6 +1,5 @@
-/* Uses every call and every constant of kelontsira.h, as C99 and as C++: runs examples of document 01, each call at the limit of sides and
- * beyond it, and one refusal of each number, and looks that a refusal changes nothing. Prints 'N checks, M failed'; the exit status is 0
- * when none failed. */
+/* Uses every call and every constant of kelontsira.h, as C99 and as C++: runs examples of document 01 and one refusal of each number, and
+ * looks that a refusal changes nothing. Prints 'N checks, M failed'; the exit status is 0 when none failed. */
 #include "kelontsira.h"
 #include "kelontsira.h" /* twice does no harm */
 
@@ -24,7 +23,7 @@ static void check(int good, int line, const char *what)
 
 /* ---- Buffers with room for 3 by 3 or 5 by 4, and one entry more, which no call may touch */
 
-enum { NINE = 9, TWENTY = 20, ROOM = 21 };
+enum { NINE = 9, TWENTY = 20, ROOM = 21, WIDE = 640 };
 
 enum { KEPT = 0xa5 }; /* what the bytes of every buffer are before a call */
 
@@ -79,6 +78,10 @@ static const uint8_t STEP[TWENTY] = {0, 0, 50, 50, 50, 0, 0, 50, 50, 50, 0, 0, 5
 static const float MAGNITUDES[NINE] = {120, 60, 0, 0, 0, 60, 60, 0, 0};
 static const float ONE_TAP[1] = {1};
 static const float SHIFT[3] = {1, 0, 0};
+
+static uint8_t wide_row[WIDE];
+static uint8_t wide_out[WIDE];
+static float wide_work[WIDE];
 
 /* ---- The calls, with what they are lent */
 
@@ -159,106 +162,9 @@ static uint8_t canny(size_t width, size_t length, const float *taps, size_t coun
                             lent.gy, ROOM, lent.blurred, ROOM, lent.marks, ROOM, lent.stack, ROOM, lent.out, room, &lent.count);
 }
 
-/* ---- Every call that has sides, on a picture of one row or one column about the limit. All that is lent holds one byte everywhere, which
- * is a mark that an ended walk has. */
-
-enum { WIDE = KELONTSIRA_MAX_SIDE, OVER = WIDE + 1, HELD = KELONTSIRA_MARK_FINISHED };
-
-static struct {
-    uint8_t pixels[OVER];
-    uint8_t out[OVER];
-    float work[OVER];
-    float magnitude[OVER];
-    int16_t gx[OVER];
-    int16_t gy[OVER];
-    uint8_t blurred[OVER];
-    uint8_t marks[OVER];
-    uint32_t stack[OVER];
-    size_t width;
-    size_t height;
-    size_t pending;
-    size_t number;
-} wide;
-
-static uint8_t wide_kernel(size_t width, size_t height)
+static uint8_t blur_wide(size_t width, const float *taps, size_t count)
 {
-    return kelontsira_apply_kernel(wide.pixels, width * height, width, height, 1, 1, ONE_TAP, 1, KELONTSIRA_CLAMP, wide.out, OVER);
-}
-
-static uint8_t wide_separable(size_t width, size_t height)
-{
-    return kelontsira_apply_separable_kernel(wide.pixels, width * height, width, height, 3, 1, SHIFT, 3, ONE_TAP, 1, KELONTSIRA_MIRROR,
-                                             wide.work, OVER, wide.out, OVER);
-}
-
-static uint8_t wide_blur(size_t width, size_t height, const float *taps, size_t count)
-{
-    return kelontsira_gaussian_blur(wide.pixels, width * height, width, height, taps, count, KELONTSIRA_CLAMP, wide.work, OVER, wide.out,
-                                    OVER);
-}
-
-static uint8_t wide_gaussian(size_t width, size_t height)
-{
-    return wide_blur(width, height, SHIFT, 3);
-}
-
-static uint8_t wide_box(size_t width, size_t height)
-{
-    return kelontsira_box_blur(wide.pixels, width * height, width, height, KELONTSIRA_ZERO, wide.work, OVER, wide.out, OVER);
-}
-
-static uint8_t wide_sharpen(size_t width, size_t height)
-{
-    return kelontsira_sharpen(wide.pixels, width * height, width, height, KELONTSIRA_CLAMP, wide.out, OVER);
-}
-
-static uint8_t wide_median(size_t width, size_t height)
-{
-    return kelontsira_median(wide.pixels, width * height, width, height, KELONTSIRA_MAX_WINDOW, KELONTSIRA_MIRROR, wide.out, OVER);
-}
-
-static uint8_t wide_sobel(size_t width, size_t height)
-{
-    return kelontsira_sobel(wide.pixels, width * height, width, height, KELONTSIRA_CLAMP, wide.out, OVER);
-}
-
-static uint8_t wide_gradients(size_t width, size_t height)
-{
-    return kelontsira_sobel_gradients(wide.pixels, width * height, width, height, KELONTSIRA_ZERO, wide.gx, OVER, wide.gy, OVER);
-}
-
-static uint8_t wide_magnitude(size_t width, size_t height)
-{
-    return kelontsira_gradient_magnitude(wide.gx, width * height, wide.gy, width * height, width, height, wide.magnitude, OVER);
-}
-
-static uint8_t wide_suppression(size_t width, size_t height)
-{
-    return kelontsira_non_maximum_suppression(wide.magnitude, width * height, wide.gx, width * height, wide.gy, width * height, width,
-                                              height, wide.work, OVER);
-}
-
-static uint8_t wide_start(size_t width, size_t height)
-{
-    return kelontsira_start(wide.magnitude, width * height, width, height, 0, 0, wide.marks, OVER, wide.stack, OVER, &wide.width,
-                            &wide.height, &wide.pending);
-}
-
-static uint8_t wide_slice(size_t width, size_t height)
-{
-    size_t pending = 0;
-    return kelontsira_slice(&width, &height, &pending, 1, wide.marks, OVER, wide.stack, OVER, &wide.number);
-}
-
-static uint8_t wide_map(size_t width, size_t height)
-{
-    return kelontsira_map(width, height, 0, wide.marks, OVER, wide.stack, OVER, wide.out, OVER);
-}
-
-static uint8_t wide_canny(size_t width, size_t height)
-{
-    return kelontsira_canny(wide.pixels, width * height, width, height, SHIFT, 3, 0, 0, wide.work, OVER, wide.magnitude, OVER, wide.gx, OVER,
-                            wide.gy, OVER, wide.blurred, OVER, wide.marks, OVER, wide.stack, OVER, wide.out, OVER, &wide.number);
+    return kelontsira_gaussian_blur(wide_row, width, width, 1, taps, count, KELONTSIRA_CLAMP, wide_work, WIDE, wide_out, WIDE);
 }
 
 /* ---- Document 01's examples */
@@ -368,55 +274,15 @@ static void try_limits(void)
     for (i = 0; i < KELONTSIRA_MAX_TAPS + 2; i++) {
         taps[i] = 0.0f;
     }
-    CHECK(wide_blur(WIDE, 1, taps, KELONTSIRA_MAX_TAPS) == KELONTSIRA_ACCEPTED);
-    CHECK(wide_blur(WIDE, 1, taps, KELONTSIRA_MAX_TAPS + 2) == KELONTSIRA_REFUSED_COUNT);
-    CHECK(wide_blur(WIDE, 1, taps, 2) == KELONTSIRA_REFUSED_COUNT);
+    CHECK(blur_wide(KELONTSIRA_MAX_SIDE, taps, KELONTSIRA_MAX_TAPS) == KELONTSIRA_ACCEPTED);
+    CHECK(blur_wide(KELONTSIRA_MAX_SIDE, taps, KELONTSIRA_MAX_TAPS + 2) == KELONTSIRA_REFUSED_COUNT);
+    CHECK(blur_wide(KELONTSIRA_MAX_SIDE, taps, 2) == KELONTSIRA_REFUSED_COUNT);
     taps[0] = (float)NAN;
-    CHECK(wide_blur(OVER, 1, taps, 1) == KELONTSIRA_REFUSED_SIDE);
-    CHECK(wide_blur(WIDE, 1, taps, 1) == KELONTSIRA_REFUSED_WEIGHT);
-    CHECK(kelontsira_apply_kernel(ROW, 3, 3, 1, KELONTSIRA_MAX_KERNEL + 2, 1, taps, KELONTSIRA_MAX_KERNEL + 2, KELONTSIRA_CLAMP, wide.out,
-                                  OVER) == KELONTSIRA_REFUSED_COUNT);
-}
-
-/* One call at the limit and one beyond it, along either side, and with nothing along the other. */
-static void try_sides_of(const char *name, uint8_t (*call)(size_t, size_t))
-{
-    static const struct {
-        size_t width, height;
-        uint8_t wanted;
-    } sides[] = {
-        {WIDE, 1, KELONTSIRA_ACCEPTED}, {OVER, 1, KELONTSIRA_REFUSED_SIDE}, {WIDE, 0, KELONTSIRA_ACCEPTED}, {OVER, 0, KELONTSIRA_REFUSED_SIDE},
-        {1, WIDE, KELONTSIRA_ACCEPTED}, {1, OVER, KELONTSIRA_REFUSED_SIDE}, {0, WIDE, KELONTSIRA_ACCEPTED}, {0, OVER, KELONTSIRA_REFUSED_SIDE},
-    };
-    size_t i;
-    for (i = 0; i < sizeof sides / sizeof *sides; i++) {
-        memset(&wide, HELD, sizeof wide);
-        check(call(sides[i].width, sides[i].height) == sides[i].wanted, __LINE__, name);
-        check(sides[i].wanted == KELONTSIRA_ACCEPTED || all(&wide, HELD, sizeof wide), __LINE__, name);
-    }
-}
-
-static void try_sides(void)
-{
-    CHECK(resolve(-1, WIDE, KELONTSIRA_ZERO) == KELONTSIRA_ACCEPTED && lent.place == WIDE);
-    CHECK(resolve(2 * WIDE, WIDE, KELONTSIRA_CLAMP) == KELONTSIRA_ACCEPTED && lent.place == WIDE - 1);
-    CHECK(resolve(WIDE, WIDE, KELONTSIRA_MIRROR) == KELONTSIRA_ACCEPTED && lent.place == WIDE - 2);
-    renew();
-    CHECK(resolve(0, OVER, KELONTSIRA_MIRROR) == KELONTSIRA_REFUSED_SIDE && unchanged());
-    try_sides_of("apply_kernel about the limit", wide_kernel);
-    try_sides_of("apply_separable_kernel about the limit", wide_separable);
-    try_sides_of("gaussian_blur about the limit", wide_gaussian);
-    try_sides_of("box_blur about the limit", wide_box);
-    try_sides_of("sharpen about the limit", wide_sharpen);
-    try_sides_of("median about the limit", wide_median);
-    try_sides_of("sobel about the limit", wide_sobel);
-    try_sides_of("sobel_gradients about the limit", wide_gradients);
-    try_sides_of("gradient_magnitude about the limit", wide_magnitude);
-    try_sides_of("non_maximum_suppression about the limit", wide_suppression);
-    try_sides_of("start about the limit", wide_start);
-    try_sides_of("slice about the limit", wide_slice);
-    try_sides_of("map about the limit", wide_map);
-    try_sides_of("canny about the limit", wide_canny);
+    CHECK(kelontsira_gaussian_blur(wide_row, WIDE, KELONTSIRA_MAX_SIDE + 1, 1, taps, 1, KELONTSIRA_CLAMP, wide_work, WIDE, wide_out, WIDE)
+          == KELONTSIRA_REFUSED_SIDE);
+    CHECK(blur_wide(KELONTSIRA_MAX_SIDE, taps, 1) == KELONTSIRA_REFUSED_WEIGHT);
+    CHECK(kelontsira_apply_kernel(ROW, 3, 3, 1, KELONTSIRA_MAX_KERNEL + 2, 1, taps, KELONTSIRA_MAX_KERNEL + 2, KELONTSIRA_CLAMP, wide_out,
+                                  WIDE) == KELONTSIRA_REFUSED_COUNT);
 }
 
 /* ---- Refusals, after which nothing is changed */
@@ -477,7 +343,6 @@ int main(void)
     try_walk();
     try_run();
     try_limits();
-    try_sides();
     try_borders(3);
     try_borders(255);
     try_refusals();

@@ -13,7 +13,7 @@
 #include <string.h>
 #include <ucontext.h>
 
-enum { WIDE = KELONTSIRA_MAX_SIDE, MOST = WIDE * 16, STACK = 1 << 16, PICTURES = 12, TAPS = KELONTSIRA_MAX_TAPS, WEIGHTS = 225 };
+enum { MOST = 640 * 16, STACK = 1 << 16, PICTURES = 12, TAPS = KELONTSIRA_MAX_TAPS, WEIGHTS = 225 };
 
 /* ---- What a call is lent */
 
@@ -260,9 +260,7 @@ static struct Measure measure(size_t at)
 /* The most of all sides, borders and sizes of kernels. */
 static struct Measure most_of(size_t at)
 {
-    static const size_t SIDES[][2] = {
-        {1, 1}, {3, 3}, {5, 4}, {64, 48}, {127, 9}, {128, 5}, {131, 16}, {256, 3}, {257, 5}, {640, 16}, {WIDE, 16}, {2, WIDE}, {16, WIDE},
-    };
+    static const size_t SIDES[][2] = {{1, 1}, {3, 3}, {5, 4}, {64, 48}, {127, 9}, {128, 5}, {131, 16}, {640, 16}, {2, 640}, {16, 640}};
     static const size_t SIZES[] = {1, 3, 5, 15, 63};
     struct Measure most = {0, 0};
     size_t i, j;

@@ -29,7 +29,7 @@ extern "C" {
 
 /* ---- Limits */
 
-#define KELONTSIRA_MAX_SIDE 2048        /* width and height of a picture */
+#define KELONTSIRA_MAX_SIDE 640         /* width and height of a picture */
 #define KELONTSIRA_MAX_TAPS 63          /* taps of a separable kernel, each way; odd */
 #define KELONTSIRA_MAX_KERNEL 15        /* sides of a kernel; odd */
 #define KELONTSIRA_MAX_WINDOW 15        /* side of a median's window; odd */
@@ -44,7 +44,7 @@ extern "C" {
 /* ---- Answers. Anything but KELONTSIRA_ACCEPTED means that nothing was changed. */
 
 #define KELONTSIRA_ACCEPTED 0
-#define KELONTSIRA_REFUSED_SIDE 1      /* a side is over 2048; kelontsira_resolve_coord also refuses 0 */
+#define KELONTSIRA_REFUSED_SIDE 1      /* a side is over 640; kelontsira_resolve_coord also refuses 0 */
 #define KELONTSIRA_REFUSED_INPUT 2     /* an input's length is not width * height */
 #define KELONTSIRA_REFUSED_COUNT 3     /* a tap count, kernel side or window is 0, even or too large, or the weights are not as many */
 #define KELONTSIRA_REFUSED_WEIGHT 4    /* a tap or weight is infinite or NaN */
@@ -66,7 +66,7 @@ extern "C" {
 
 /* ---- Filters: a byte picture in, a byte picture out (first width * height entries) */
 
-/* Where coordinate `coord` of a side of 1 to 2048 is read: *place is below `side`, or `side` itself where the sample is 0 (only under
+/* Where coordinate `coord` of a side of 1 to 640 is read: *place is below `side`, or `side` itself where the sample is 0 (only under
  * KELONTSIRA_ZERO). Refusals: 255, 1. */
 uint8_t kelontsira_resolve_coord(int64_t coord, size_t side, uint8_t border, size_t *place);
 
@@ -149,8 +149,7 @@ uint8_t kelontsira_slice(size_t *walk_width, size_t *walk_height, size_t *walk_p
                          size_t marks_length, uint32_t *stack, size_t stack_length, size_t *takes);
 
 /* The map of a walk that has ended: 255 where the mark is 3, else 0. After a start and slices until nothing is pending those are the pixels
- * joined to a strong one; of marks that a caller made up it is only what it says: 255 where they are 3. Refusals: 1, 7 (marks, stack or
- * out), 9, 10. */
+ * joined to a strong one; of marks that a caller made up it is only what it says: 255 where they are 3. Refusals: 1, 7 (marks, stack or out), 9, 10. */
 uint8_t kelontsira_map(size_t walk_width, size_t walk_height, size_t walk_pending, const uint8_t *marks, size_t marks_length,
                        const uint32_t *stack, size_t stack_length, uint8_t *out, size_t out_length);
 
@@ -158,8 +157,7 @@ uint8_t kelontsira_map(size_t walk_width, size_t walk_height, size_t walk_pendin
 
 /* Blur with the taps (Clamp), Sobel (Clamp), magnitude, suppression, a walk to its end and its map: 255 at an edge, else 0; *count is
  * how many are 255. The seven buffers before `map` are scratch of at least width * height entries each, 18 bytes a pixel; what they held
- * changes nothing of the answer, and their first width * height entries are 0 afterwards. Refusals: 1, 2, 3, 4, 5, 6, 7 (any scratch
- * buffer or map). */
+ * changes nothing of the answer, and their first width * height entries are 0 afterwards. Refusals: 1, 2, 3, 4, 5, 6, 7 (any scratch buffer or map). */
 uint8_t kelontsira_canny(const uint8_t *pixels, size_t pixels_length, size_t width, size_t height, const float *taps,
                          size_t taps_length, float low, float high, float *work, size_t work_length, float *magnitude,
                          size_t magnitude_length, int16_t *gx, size_t gx_length, int16_t *gy, size_t gy_length, uint8_t *blurred,

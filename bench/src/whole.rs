@@ -12,7 +12,7 @@ use crate::vendor;
 pub const THRESHOLDS: [(f32, f32); 2] = [(20.0, 60.0), (50.0, 100.0)];
 
 /// The sizes of the growth, the smallest first.
-const SIZES: [(usize, usize); 5] = [(160, 120), (320, 240), (640, 480), (1_280, 960), (2_048, 2_048)];
+const SIZES: [(usize, usize); 4] = [(160, 120), (320, 240), (640, 480), (640, 640)];
 
 const ROUNDS: usize = 21;
 
@@ -45,12 +45,8 @@ pub fn growth(wanted: &str) -> Result<Vec<Row>, String> {
             for desk in &mut desks {
                 let (width, height) = desk.frame.sides();
                 // Small pictures are quick and their times uneven: more rounds.
-                let rounds = match width {
-                    0..640 => 9,
-                    640 => 3,
-                    _ => 2,
-                };
-                run(desk, &format!("growth, {width} by {height}"), rounds, vendor::SIGMAS[1], THRESHOLDS[1])?;
+                let rounds = if width < 640 { 9 } else { 3 };
+                run(desk, &format!("whole run, {width} by {height}"), rounds, vendor::SIGMAS[1], THRESHOLDS[1])?;
             }
         }
         rows.extend(desks.into_iter().filter_map(Desk::joined));

@@ -1,8 +1,8 @@
 //! Document 01, with what document 02 changes, written once more in plain Rust, on its own: the refusal table of every call, the sector,
 //! the neighbours, the root's rules and the walk. Nothing here looks at the vendor's text or at our library.
 
-/// Document 01's limits; that of a side is document 02's, item 4.
-pub const MAX_SIDE: usize = 2048;
+/// Document 01's limits.
+const SIDE: usize = 640;
 const TAPS: usize = 63;
 const KERNEL: usize = 15;
 const WINDOW: usize = 15;
@@ -57,7 +57,7 @@ impl Table {
     }
 
     fn side_refused(&self) -> bool {
-        self.sides.is_some_and(|(w, h)| w > MAX_SIDE || h > MAX_SIDE) || self.coordinate_side.is_some_and(|s| s == 0 || s > MAX_SIDE)
+        self.sides.is_some_and(|(w, h)| w > SIDE || h > SIDE) || self.coordinate_side.is_some_and(|s| s == 0 || s > SIDE)
     }
 
     fn size_refused(&self) -> bool {

@@ -1,7 +1,8 @@
 //! Pictures to compare on: every tiny one, the limits of the sides, and random ones of every shape and of several kinds of content.
 
-use crate::model::MAX_SIDE;
 use crate::random::Random;
+
+pub const MAX_SIDE: usize = 640;
 
 #[derive(Clone, Debug)]
 pub struct Picture {
@@ -23,15 +24,9 @@ const TINY: [(usize, usize, &[u8]); 6] = [
 /// So many of the tiny pictures, the first ones, are a single pixel.
 pub const SINGLE: usize = TINY[0].2.len();
 
-/// Shapes at the limits, then a usual one and two just over the sides that document 01 allowed before; each comes three times, once for each
-/// border.
-const LIMITS: [(usize, usize); 12] = [
-    (MAX_SIDE, MAX_SIDE), (MAX_SIDE, 1), (1, MAX_SIDE), (MAX_SIDE, 2), (3, MAX_SIDE), (MAX_SIDE - 1, 3), (MAX_SIDE, 0), (0, MAX_SIDE),
-    (0, 0), (640, 480), (641, 2), (2, 641),
-];
-
-/// Sides of the random pictures that are middling.
-const MIDDLING: usize = 400;
+/// Shapes at the limits; each comes three times, once for each border.
+const LIMITS: [(usize, usize); 10] =
+    [(640, 640), (640, 1), (1, 640), (640, 2), (3, 640), (639, 3), (640, 0), (0, 640), (0, 0), (640, 480)];
 
 impl Picture {
     pub fn area(&self) -> usize {
@@ -144,14 +139,13 @@ pub fn digits(number: usize, base: usize, count: usize) -> Vec<usize> {
     all
 }
 
-/// The shape of random case `index`: mostly small, one in 20 long and thin, one in 125 middling, one in 4,000 of any sides up to the limit.
+/// The shape of random case `index`: mostly small, one in 20 long and thin, one in 125 of any sides up to the limit.
 pub fn shape(index: usize, random: &mut Random) -> (usize, usize) {
     if index < 3 * LIMITS.len() {
         return LIMITS[index / 3];
     }
     if index % 125 == 7 {
-        let most = if index % 4_000 == 7 { MAX_SIDE } else { MIDDLING };
-        return (random.below(most + 1), random.below(most + 1));
+        return (random.below(MAX_SIDE + 1), random.below(MAX_SIDE + 1));
     }
     if index % 20 == 3 {
         let (long, short) = (random.below(MAX_SIDE + 1), 1 + random.below(4));

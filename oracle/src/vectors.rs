@@ -3,7 +3,6 @@
 
 use std::fmt::Write;
 
-use crate::model::MAX_SIDE;
 use crate::numbers;
 use crate::pictures::Picture;
 use crate::random::Random;
@@ -77,11 +76,8 @@ fn case(stage: u32, index: usize, sides: (usize, usize), random: &mut Random) ->
 }
 
 fn resolve(line: &mut Line, random: &mut Random) {
-    let side = match random.below(4) {
-        0 | 1 => 1 + random.below(5),
-        2 => 1 + random.below(MAX_SIDE),
-        _ => MAX_SIDE,
-    };
+    let most = if random.once_in(2) { 5 } else { 640 };
+    let side = 1 + random.below(most);
     let coord = match random.below(4) {
         0 => random.next() as i64,
         1 => random.pick(&[i64::MIN, i64::MAX, -1, 0, side as i64 - 1, side as i64, i64::MIN + 1]),

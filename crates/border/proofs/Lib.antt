@@ -1,3 +1,4 @@
 -- Laws about the code of this crate and of the filters' loops that several proofs cite.
 pub mod Resolving
 pub mod Reading
+pub mod Writing

@@ -1,2 +1,3 @@
--- What the shared functions give.
+-- What the shared functions give, and what the filters' loops require of their arguments.
 pub mod Reading
+pub mod Lent

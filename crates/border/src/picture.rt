@@ -1,12 +1,23 @@
-// A byte of a lent picture, or of a row of one.
-ghost use Rattle.std.specs.Prelude.{◌≡◌, get_or};
+// A byte of a lent picture, by the places of its column and its row.
+ghost use Rattle.std.specs.Prelude.{◌≡◌};
+ghost use Rattle.border.specs.Reading.{read_in};
 
-// The byte at an index: 0 past the end, where what is nowhere is looked for.
-pub fn byte_at(bytes: &[u8], i: usize) -> u8
-    ensures { result ≡ get_or bytes.now i 0 }
+use refusals::filter::of_picture;
+use rules::{ACCEPTED, Size};
+
+// The byte in column x and row y, each as `place` gives it: 0 where one of them is nowhere, and of a picture that is refused.
+pub fn read(pixels: &[u8], size: Size, x: usize, y: usize) -> u8
+    ensures { result ≡ read_in pixels.now size x y }
 {
-    if i < bytes.len() {
-        return bytes[i];
+    if of_picture(pixels, size) != ACCEPTED {
+        return 0;
     }
-    0
+    if size.width <= x {
+        return 0;
+    }
+    if size.height <= y {
+        return 0;
+    }
+    let i = y * size.width + x;
+    pixels[i]
 }

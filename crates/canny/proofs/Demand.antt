@@ -6,8 +6,9 @@ use mathlib.Core.List.{List}
 use lib.Dec.{eqb}
 use lib.ListN.{get_or, take, drop}
 use lib.Ieee.{Float}
-use Rattle.rules.specs.Picture.{area, tabulate, filled}
+use Rattle.rules.specs.Picture.{area, tabulate, filled, tally}
 use Rattle.rules.specs.Refusals.{Scratch, first, run_rows, start_rows}
+use Rattle.rules.specs.Joined.{Joined, Tells}
 use Rattle.rules.specs.Run.{suppressed_of, run_edges, count_of, cleared_scratch, canny, Roomy}
 use Rattle.rules.specs.declared.Size.{Size}
 use Rattle.rules.specs.declared.Thresholds.{Thresholds}
@@ -16,7 +17,7 @@ use Rattle.rules.proofs.Fill.{filled_at, take_filled, drop_filled}
 use Rattle.rules.proofs.Paths.{way_in}
 use Rattle.rules.proofs.Runs.{front, roomy}
 use Rattle.rules.proofs.Demand.{run_kept}
-use Rattle.canny.specs.Demand.{Demand1}
+use Rattle.canny.specs.Demand.{Demand1, hi, lo}
 use Rattle.canny.proofs.Running.{startable}
 use Rattle.canny.proofs.Walking.{edge_on, edge_off, edges_count}
 
@@ -48,10 +49,15 @@ module _ (d : Size) (pixels : List ℕ) (taps : List Float) (t : Thresholds) whe
     abbrev n : ℕ
     n = first (run_rows d pixels taps t s map)
 
+    past : drop (area d) (after s map).1.0 ≡ drop (area d) map
+    unfolding canny
+    past =
+        shared (λ (a : Counted × (List ℕ × Scratch)). drop (area d) a.1.0) (eqb n 0) _ _ _
+        (drop_filled (area d) (λ q. get_or edges q 0) map (filling map) refl) refl
+
     answer : Roomy d s map → (after s map).0 ≡ by_number (first (front d pixels taps t))
     unfolding canny
-    answer r =
-        answered (eqb n 0) n (count_of d edges) (filling map, cleared_scratch d s) (map, s) ∙ ap (λ (k : ℕ). by_number k) (roomy d pixels taps t s map r)
+    answer r = answered (eqb n 0) n (count_of d edges) (filling map, cleared_scratch d s) (map, s) ∙ ap (λ (k : ℕ). by_number k) (roomy d pixels taps t s map r)
 
     module _ (e : (after s map).0.refusal ≡ 0) where
       accepted : n ≡ 0
@@ -73,21 +79,28 @@ module _ (d : Size) (pixels : List ℕ) (taps : List Float) (t : Thresholds) whe
       walks : first (start_rows d t (suppressed_of d pixels taps) s.marks s.stack) ≡ 0
       walks = startable d pixels taps t s map accepted
 
+      count-is : (J : ℕ → Bool) → Tells d (hi d pixels taps t) (lo d pixels taps t) J → (after s map).0.count ≡ tally J (area d)
+      unfolding run_edges
+      count-is J tells =
+          ap (λ (a : Counted × (List ℕ × Scratch)). a.0.count) is-accepted
+          ∙ edges_count d t (suppressed_of d pixels taps) s.marks s.stack walks J tells
+
+      on : (q : ℕ) → Joined d (hi d pixels taps t) (lo d pixels taps t) q → get_or (after s map).1.0 q 0 ≡ 255
+      unfolding run_edges
+      on q j = map_at q (way_in d _ j.way) ∙ edge_on d t (suppressed_of d pixels taps) s.marks s.stack walks q j
+
+      off : (q : ℕ) → q < area d → (Joined d (hi d pixels taps t) (lo d pixels taps t) q → ⊥) → get_or (after s map).1.0 q 0 ≡ 0
+      unfolding run_edges
+      off q l p = map_at q l ∙ edge_off d t (suppressed_of d pixels taps) s.marks s.stack walks q l p
+
   pub demand_1 : Demand1 d pixels taps t
-  unfolding canny run_edges
   demand_1 =
       record {
         same_answer = λ s s' map map' r r'. answer s map r ∙ sym (answer s' map' r');
         same_map = λ s s' map map' e e'. first-of-map s map e ∙ sym (first-of-map s' map' e');
-        kept_past = λ s map.
-            shared (λ (a : Counted × (List ℕ × Scratch)). drop (area d) a.1.0) (eqb (n s map) 0) _ _ _
-            (drop_filled (area d) (λ q. get_or edges q 0) map (filling map) refl) refl;
+        kept_past = past;
         wiped = λ s map e. ap (λ (a : Counted × (List ℕ × Scratch)). a.1.1) (is-accepted s map e);
-        counted = λ s map e J tells.
-            ap (λ (a : Counted × (List ℕ × Scratch)). a.0.count) (is-accepted s map e)
-            ∙ edges_count d t (suppressed_of d pixels taps) s.marks s.stack (walks s map e) J tells;
-        map_on = λ s map e q j.
-            map_at s map e q (way_in d _ j.way) ∙ edge_on d t (suppressed_of d pixels taps) s.marks s.stack (walks s map e) q j;
-        map_off = λ s map e q l p.
-            map_at s map e q l ∙ edge_off d t (suppressed_of d pixels taps) s.marks s.stack (walks s map e) q l p;
+        counted = count-is;
+        map_on = on;
+        map_off = off;
       }

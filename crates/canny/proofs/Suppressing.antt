@@ -95,15 +95,19 @@ module _ {d : Size} {pixels : List ℕ} {taps work magnitude : List Float} {gx g
       unfolding component_of
       gy-lent = lent_filled d _ gy gy' gy_is
 
+      x-long : length (lent d gx') ≡ area d
+      unfolding component_of
+      x-long = long d _ (lent d gx') gx-lent
+
+      y-long : length (lent d gy') ≡ area d
+      unfolding component_of
+      y-long = long d _ (lent d gy') gy-lent
+
       -- ---- magnitude
 
       module _ {r₃ : ℕ} {magnitude' : List Float} (e₃ : (r₃, magnitude') ≡ gradient_magnitude d (lent d gx') (lent d gy') magnitude) where
         magnitude-accepted : first (magnitude_rows d (lent d gx') (lent d gy') magnitude) ≡ 0
-        unfolding component_of
-        magnitude-accepted =
-            let x = long d _ (lent d gx') gx-lent in
-            let y = long d _ (lent d gy') gy-lent in
-            sym (search rows depth 9)
+        magnitude-accepted = let x = x-long in let y = y-long in sym (search rows depth 9)
 
         magnitude-is : magnitude' ≡ filled (area d) (magnitude_at (X d pixels taps) (Y d pixels taps)) magnitude
         unfolding gradient_magnitude
@@ -115,6 +119,10 @@ module _ {d : Size} {pixels : List ℕ} {taps work magnitude : List Float} {gx g
         unfolding magnitudes_of
         magnitude-lent = lent_filled d _ magnitude magnitude' magnitude-is
 
+        m-long : length (lent d magnitude') ≡ area d
+        unfolding magnitudes_of
+        m-long = long d _ (lent d magnitude') magnitude-lent
+
         -- ---- suppression, over the work buffer that the blur cleared
 
         module _ {r₄ : ℕ} {work'' : List Float} (e₄ : (r₄, work'') ≡ non_maximum_suppression d (lent d magnitude') (lent d gx') (lent d gy') work') where
@@ -122,13 +130,7 @@ module _ {d : Size} {pixels : List ℕ} {taps work magnitude : List Float} {gx g
           room = omega (arith, ap length work_is ∙ length_filled (area d) (λ i. plus_zero) work h.work_room, h.work_room)
 
           suppression-accepted : first (suppression_rows d (lent d magnitude') (lent d gx') (lent d gy') work') ≡ 0
-          unfolding component_of magnitudes_of
-          suppression-accepted =
-              let m = long d _ (lent d magnitude') magnitude-lent in
-              let x = long d _ (lent d gx') gx-lent in
-              let y = long d _ (lent d gy') gy-lent in
-              let l = room in
-              sym (search rows depth 9)
+          suppression-accepted = let m = m-long in let x = x-long in let y = y-long in let l = room in sym (search rows depth 9)
 
           suppressed-is : work'' ≡ painted d (suppressed_at d (M d pixels taps) (X d pixels taps) (Y d pixels taps)) work'
           unfolding non_maximum_suppression

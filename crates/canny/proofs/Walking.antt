@@ -2,7 +2,7 @@
 -- Assumes nothing.
 use mathlib.Core.Path.{◌≡◌, refl, sym, ap, ◌∙◌}
 use mathlib.Core.Bool.{Bool, true, false, cond}
-use mathlib.Core.List.{List}
+use mathlib.Core.List.{List, [], ◌∷◌}
 use Prim.Native.Nat.{ℕ, ◌+◌, ◌-◌, ◌<◌, ◌≤◌}
 use native.Mathlib.Omega.{arith}
 use lib.Dec.{T, eqb}
@@ -10,7 +10,7 @@ use lib.ListN.{length, get_or, take, drop}
 use lib.Ieee.{Float}
 use borrow.Author.Tests.{eq-eqb, ne_eqb}
 use Rattle.rules.specs.Picture.{area, zeros, filled, tally}
-use Rattle.rules.specs.Walk.{State, state, has, sliced, takes, at_least, edge, mapped}
+use Rattle.rules.specs.Walk.{State, has, sliced, takes, at_least, edge, mapped}
 use Rattle.rules.specs.Refusals.{first, start_rows, slice_rows, map_rows}
 use Rattle.rules.specs.Calls as Calls
 use Rattle.rules.specs.Calls.{walk_of, lent, after_start, after_slice, slice_takes}
@@ -26,8 +26,10 @@ use Rattle.rules.proofs.Fill.{length_tabulate, get_d_tabulate, recount, first_pa
 use Rattle.rules.proofs.Rows.{off, rows}
 use Rattle.rules.proofs.Tallies.{tally_eq}
 use Rattle.rules.proofs.Paths.{way_in, same_count}
-use Rattle.hysteresis.proofs.Demand.{end_tells, end_goes}
-use Rattle.hysteresis.proofs.Fits.{past, past_started, past_sliced}
+use Rattle.hysteresis.specs.Demand.{Held, Call, AllGoOn, after_all, spent, Progress, held_at_start}
+use Rattle.hysteresis.specs.Demand.Call.{slice}
+use Rattle.hysteresis.proofs.Demand.{demand_3, end_tells}
+use Rattle.hysteresis.proofs.Fits.{past_started, past_sliced}
 use Rattle.hysteresis.proofs.Numbers.{slice_fit}
 use Rattle.canny.specs.Lent.{Walkable, Walked}
 
@@ -49,32 +51,60 @@ module _ (d : Size) (t : Thresholds) (magnitudes : List Float) (marks stack : Li
   unfolding Calls.start
   start_is = rw e
 
+  -- what a caller holds at the start and at the end
+  held_at : State → Held
+  held_at s = record { walk = walk_of d s.pending; marks = s.marks; stack = s.stack }
+
+  held_begun : held_at_start d t magnitudes marks stack ≡ held_at begun
+  unfolding held_at
+  held_begun = ap (λ (a : Started × (List ℕ × List ℕ)). record { walk = a.0.walk; marks = a.1.0; stack = a.1.1 }) start_is
+
   refusal_is : (Calls.start d t magnitudes marks stack).0.refusal ≡ 0
   refusal_is = ap (λ (a : Started × (List ℕ × List ℕ)). a.0.refusal) start_is
 
-  goes : (first (slice_rows d (area d + 1) begun) ≡ 0) × ((out : List ℕ) → area d ≤ length out → first (map_rows d ended out) ≡ 0)
-  goes = end_goes d t magnitudes marks stack refusal_is
+  -- demand 3 after slices
+  abbrev h : Held
+  h = held_at_start d t magnitudes marks stack
+
+  after : (calls : List Call) → AllGoOn calls h
+      → let D = demand_3 d t magnitudes marks stack in
+      Progress d (at_least t.high magnitudes) (at_least t.low magnitudes) (tally D.told.0 (area d)) (spent calls h) (after_all calls h)
+  after calls g = let D = demand_3 d t magnitudes marks stack in D.progress refusal_is D.told.0 D.told.1 calls g
+
+  slice_accepted : first (slice_rows d (area d + 1) begun) ≡ 0
+  unfolding Calls.slice after_all AllGoOn held_at
+  slice_accepted = rw held_begun at ((after [] tt).next (area d + 1) (omega arith))
 
   slice_is : Calls.slice (walk_of d begun.pending) (area d + 1) begun.marks begun.stack
       ≡ (record { refusal = 0; takes = takes d (area d + 1) begun; walk = walk_of d ended.pending }, lent ended)
   unfolding Calls.slice after_slice slice_takes
-  slice_is = rw goes.0
+  slice_is = rw slice_accepted
+
+  held_ended : after_all (slice (area d + 1) ∷ []) (held_at_start d t magnitudes marks stack) ≡ held_at ended
+  unfolding after_all held_at
+  held_ended =
+      ap (λ (h : Held). after_all (slice (area d + 1) ∷ []) h) held_begun
+      ∙ ap (λ (a : Sliced × (List ℕ × List ℕ)). record { walk = a.0.walk; marks = a.1.0; stack = a.1.1 }) slice_is
 
   abbrev finished : (ended.pending ≡ 0) × Tells d (at_least t.high magnitudes) (at_least t.low magnitudes) (has 3 ended.marks)
   finished = end_tells d t magnitudes marks stack refusal_is
 
   map_is : (out : List ℕ) → area d ≤ length out → Calls.map (walk_of d ended.pending) ended.marks ended.stack out
       ≡ (record { refusal = 0; walk = walk_of d ended.pending }, mapped (area d) ended.marks out)
-  unfolding Calls.map
-  map_is out room = rw (goes.1 out room)
+  unfolding Calls.map AllGoOn held_at
+  map_is out room =
+      let p = after (slice (area d + 1) ∷ []) (tt, tt) in
+      let number : first (map_rows d ended out) ≡ 0 = (rw held_ended at p.map_given) finished.0 out room in
+      rw number
 
   -- ---- the buffers past the picture
 
-  kept : past d ended ≡ past d (state marks stack 0)
+  past : (drop (area d) ended.marks ≡ drop (area d) marks) × (drop (area d) ended.stack ≡ drop (area d) stack)
   unfolding after_start
-  kept =
-      past_sliced d (area d + 1) begun (slice_fit d (area d + 1) begun goes.0)
-      ∙ past_started d (at_least t.high magnitudes) (at_least t.low magnitudes) marks stack
+  past =
+      let x = past_sliced d (area d + 1) begun (slice_fit d (area d + 1) begun slice_accepted) in
+      let y = past_started d (at_least t.high magnitudes) (at_least t.low magnitudes) marks stack in
+      (x.marks ∙ y.marks, x.stack ∙ y.stack)
 
 -- ---- the map is the same from any buffers: from these, and from the definition's
 
@@ -145,9 +175,8 @@ walked {d} {t} {suppressed} {marks} {stack} {out} w e₁ e₂ {out' = out'} e₃
     let at_map =
     e₃ ∙ ap (λ (a : Sliced × (List ℕ × List ℕ)). Calls.map a.0.walk a.1.0 a.1.1 out) at-end
     ∙ map_is d t S marks stack w.accepted out w.room in
-    let k = kept d t S marks stack w.accepted in
     record {
       is = edges_are d t S marks stack w.accepted out out' (ap (λ (a : Mapped × List ℕ). a.1) at_map);
-      marks_kept = ap (λ (a : Sliced × (List ℕ × List ℕ)). drop (area d) a.1.0) at-end ∙ ap (λ (x : List ℕ × List ℕ). x.0) k;
-      stack_kept = ap (λ (a : Sliced × (List ℕ × List ℕ)). drop (area d) a.1.1) at-end ∙ ap (λ (x : List ℕ × List ℕ). x.1) k;
+      marks_kept = ap (λ (a : Sliced × (List ℕ × List ℕ)). drop (area d) a.1.0) at-end ∙ (past d t S marks stack w.accepted).0;
+      stack_kept = ap (λ (a : Sliced × (List ℕ × List ℕ)). drop (area d) a.1.1) at-end ∙ (past d t S marks stack w.accepted).1;
     }

@@ -5,10 +5,9 @@
 ghost use Rattle.std.specs.Prelude.{◌≤◌, length};
 
 use crate::{COLON, NEWLINE, SPACE, after_space, digits, pattern, place_of};
-use rules::MAX_SIDE;
 
 // No buffer of a case is longer.
-pub const ROOM: usize = 3 * MAX_SIDE + 2;
+pub const ROOM: usize = 1922;
 
 const BAR: u8 = 124;
 
@@ -70,16 +69,6 @@ pub fn number(line: &[u8], name: &[u8]) -> u32 {
 
 pub fn size(line: &[u8], name: &[u8]) -> usize {
     number(line, name) as usize
-}
-
-// The k-th of a field's values, or 0.
-pub fn at(line: &[u8], name: &[u8], k: usize) -> u32 {
-    let mut list = [0u32; ROOM];
-    let n = values(line, name, &mut list);
-    if k < n {
-        return list[k];
-    }
-    0
 }
 
 pub fn initial(line: &[u8], name: &[u8]) -> u8 {

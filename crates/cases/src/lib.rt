@@ -2,8 +2,6 @@
 // A number is 12, -12 (the pattern of 32 bits), x7fc00000 (bits) or f12 (the bits of the float 12). What is misread shows in what the
 // program writes.
 pub mod fields;
-pub mod lines;
-pub mod shape;
 
 ghost use Rattle.std.specs.Prelude.{◌≡◌, ◌&&◌, ◌≤◌, ◌%◌, min, eqb, ltb, length, get_or};
 ghost use Rattle.std.specs.Float.{binary32};
@@ -75,38 +73,6 @@ pub fn next_line(text: &[u8], from: usize) -> usize
         return end + 1;
     }
     end
-}
-
-// The case at `at`: writes its name and gives its line. `at` is then the next line. A heading is its name alone; a remark writes nothing, and
-// its line is empty.
-pub fn next<'a>(text: &'a [u8], at: &mut usize) -> &'a [u8]
-    ensures { Onward text.now at.old at.new }
-{
-    let from = *at;
-    let end = next_line(text, from);
-    *at = end;
-    if starts_remark(text, from) {
-        return &text[0..0];
-    }
-    let line = part(text, from, end);
-    begin(line);
-    line
-}
-
-fn part(text: &[u8], from: usize, end: usize) -> &[u8] {
-    if end <= text.len() {
-        if from <= end {
-            return &text[from..end];
-        }
-    }
-    &text[0..0]
-}
-
-fn begin(line: &[u8]) {
-    after_name(line, 0);
-    if fields::calls(line, b"heading") {
-        report::words(b"\n");
-    }
 }
 
 // Writes a name; the place of the space after its colon.

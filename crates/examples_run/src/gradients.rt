@@ -1,8 +1,8 @@
 // Sobel's components and its byte, sectors, magnitudes and suppression.
-use crate::magnitudes;
+use crate::shape::{border, height, width};
+use crate::{lines, magnitudes};
 use cases::fields::{ROOM, calls};
-use cases::shape::{border, height, width};
-use cases::{fields, lines, signed, wide};
+use cases::{fields, signed, wide};
 use kelontsira::filtering::kelontsira_sobel_byte;
 use kelontsira::gradients::{
     kelontsira_gradient_magnitude, kelontsira_magnitude_of, kelontsira_non_maximum_suppression,
@@ -15,8 +15,12 @@ pub(crate) fn run(line: &[u8]) -> bool {
         components(line);
         return true;
     }
-    if calls(line, b"gradient_magnitude") | calls(line, b"non_maximum_suppression") {
-        of_components(line);
+    if calls(line, b"gradient_magnitude") {
+        magnitude(line);
+        return true;
+    }
+    if calls(line, b"non_maximum_suppression") {
+        suppression(line);
         return true;
     }
     one_pixel(line)
@@ -74,47 +78,64 @@ fn lend(line: &[u8], pixels: &[u8]) {
     let mut gy = [0i16; ROOM];
     let n = fields::numbers(line, b"gx", &mut gx);
     let m = fields::numbers(line, b"gy", &mut gy);
-    make(line, pixels, &mut gx[0..n], &mut gy[0..m]);
-}
-
-fn make(line: &[u8], pixels: &[u8], gx: &mut [i16], gy: &mut [i16]) {
-    let got = kelontsira_sobel_gradients(pixels, width(line), height(line), border(line), gx, gy);
+    let got = kelontsira_sobel_gradients(
+        pixels,
+        width(line),
+        height(line),
+        border(line),
+        &mut gx[0..n],
+        &mut gy[0..m],
+    );
     lines::number(b"", line, got);
     if fields::has(line, b"first") {
-        lines::flat(line, gx, 2001);
-        lines::flat(line, gy, 3001);
+        lines::flat(line, &gx, n, 2001);
+        lines::flat(line, &gy, m, 3001);
         return;
     }
-    lines::numbers(b"  gx", line, b"gx", b"gx-after", gx);
-    lines::numbers(b"  gy", line, b"gy", b"gy-after", gy);
+    lines::numbers(b"  gx", line, b"gx", b"gx-after", &gx, n);
+    lines::numbers(b"  gy", line, b"gy", b"gy-after", &gy, m);
 }
 
-fn of_components(line: &[u8]) {
+// All of the output is shown, also where less of it was lent.
+fn magnitude(line: &[u8]) {
+    let mut gx = [0i16; ROOM];
+    let mut gy = [0i16; ROOM];
+    let mut out = [0.0f32; ROOM];
+    let n = fields::numbers(line, b"gx", &mut gx);
+    let m = fields::numbers(line, b"gy", &mut gy);
+    let all = fields::floats(line, b"out", &mut out);
+    let k = fields::lent(line, b"out-lent", all);
+    let got = kelontsira_gradient_magnitude(
+        &gx[0..n],
+        &gy[0..m],
+        width(line),
+        height(line),
+        &mut out[0..k],
+    );
+    lines::floats_or_number(line, got, &out, all);
+}
+
+fn suppression(line: &[u8]) {
     let mut gx = [0i16; ROOM];
     let mut gy = [0i16; ROOM];
     let n = fields::numbers(line, b"gx", &mut gx);
     let m = fields::numbers(line, b"gy", &mut gy);
-    lend_floats(line, &gx[0..n], &gy[0..m]);
+    suppress(line, &gx[0..n], &gy[0..m]);
 }
 
-fn lend_floats(line: &[u8], gx: &[i16], gy: &[i16]) {
+fn suppress(line: &[u8], gx: &[i16], gy: &[i16]) {
     let mut magnitude = [0.0f32; ROOM];
     let mut out = [0.0f32; ROOM];
     let n = fields::floats(line, b"magnitude", &mut magnitude);
-    let m = fields::floats(line, b"out", &mut out);
-    answer(line, &magnitude[0..n], gx, gy, &mut out[0..m]);
-}
-
-// All of the output is shown, also where less of it was lent.
-fn answer(line: &[u8], magnitude: &[f32], gx: &[i16], gy: &[i16], out: &mut [f32]) {
-    let n = fields::lent(line, b"out-lent", out.len());
-    let got = called(line, magnitude, gx, gy, &mut out[0..n]);
-    lines::floats_or_number(line, got, out);
-}
-
-fn called(line: &[u8], magnitude: &[f32], gx: &[i16], gy: &[i16], out: &mut [f32]) -> u8 {
-    if calls(line, b"gradient_magnitude") {
-        return kelontsira_gradient_magnitude(gx, gy, width(line), height(line), out);
-    }
-    kelontsira_non_maximum_suppression(magnitude, gx, gy, width(line), height(line), out)
+    let all = fields::floats(line, b"out", &mut out);
+    let k = fields::lent(line, b"out-lent", all);
+    let got = kelontsira_non_maximum_suppression(
+        &magnitude[0..n],
+        gx,
+        gy,
+        width(line),
+        height(line),
+        &mut out[0..k],
+    );
+    lines::floats_or_number(line, got, &out, all);
 }

@@ -1,7 +1,8 @@
 // The calls that make a byte picture of a byte picture, and the resolver.
+use crate::lines;
+use crate::shape::{border, height, width};
+use cases::fields;
 use cases::fields::{ROOM, calls};
-use cases::shape::{border, height, width};
-use cases::{fields, lines};
 use filters::box_blur::BoxBlurFilter;
 use filters::sharpen::SharpenFilter;
 use gradient::sobel::SobelFilter;
@@ -78,31 +79,27 @@ fn picture(line: &[u8]) {
     let mut out = [0u8; ROOM];
     let n = fields::bytes(line, b"pixels", &mut pixels);
     let m = fields::bytes(line, b"out", &mut out);
-    answer(line, &pixels[0..n], &mut out[0..m]);
+    let got = called(line, &pixels[0..n], &mut out[0..m]);
+    left(line, got, &out, m);
 }
 
-fn answer(line: &[u8], pixels: &[u8], out: &mut [u8]) {
-    let got = called(line, pixels, out);
-    left(line, got, out);
-}
-
-fn left(line: &[u8], got: u8, out: &[u8]) {
+fn left(line: &[u8], got: u8, out: &[u8; ROOM], n: usize) {
     let stage = calls(line, b"sobel") | calls(line, b"median");
     if fields::has(line, b"first") {
         lines::number(b"", line, got);
         if stage {
-            lines::largest(line, out, b"  all the same", b"  past the picture");
+            lines::largest(line, out, n, b"  all the same", b"  past the picture");
         } else {
-            lines::largest(line, out, b"  all copied", b"  kept from there on");
+            lines::largest(line, out, n, b"  all copied", b"  kept from there on");
         }
         return;
     }
     if stage {
         lines::number(b"", line, got);
-        lines::bytes(b"  its bytes", line, b"out", b"out-after", out);
+        lines::bytes(b"  its bytes", line, b"out", b"out-after", out, n);
         return;
     }
-    lines::bytes_or_number(line, got, out);
+    lines::bytes_or_number(line, got, out, n);
 }
 
 fn called(line: &[u8], pixels: &[u8], out: &mut [u8]) -> u8 {
@@ -169,7 +166,7 @@ fn kernel(line: &[u8], pixels: &[u8], out: &mut [u8]) -> u8 {
     )
 }
 
-// The calls with a work buffer.
+// The calls with a work buffer, all of which is shown, also where less of it was lent.
 fn blur(line: &[u8]) {
     let mut pixels = [0u8; ROOM];
     let n = fields::bytes(line, b"pixels", &mut pixels);
@@ -179,17 +176,12 @@ fn blur(line: &[u8]) {
 fn lend(line: &[u8], pixels: &[u8]) {
     let mut work = [0.0f32; ROOM];
     let mut out = [0u8; ROOM];
-    let n = fields::floats(line, b"work", &mut work);
+    let k = fields::floats(line, b"work", &mut work);
+    let n = fields::lent(line, b"work-lent", k);
     let m = fields::bytes(line, b"out", &mut out);
-    answer_blur(line, pixels, &mut work[0..n], &mut out[0..m]);
-}
-
-// All of the work buffer is shown, also where less of it was lent.
-fn answer_blur(line: &[u8], pixels: &[u8], work: &mut [f32], out: &mut [u8]) {
-    let n = fields::lent(line, b"work-lent", work.len());
-    let got = blurred(line, pixels, &mut work[0..n], out);
-    lines::bytes_or_number(line, got, out);
-    lines::floats(b"  work", line, b"work", b"work-after", work);
+    let got = blurred(line, pixels, &mut work[0..n], &mut out[0..m]);
+    lines::bytes_or_number(line, got, &out, m);
+    lines::floats(b"  work", line, b"work", b"work-after", &work, k);
 }
 
 fn blurred(line: &[u8], pixels: &[u8], work: &mut [f32], out: &mut [u8]) -> u8 {

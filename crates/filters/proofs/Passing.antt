@@ -7,7 +7,7 @@ use native.Mathlib.Omega.{arith}
 use lib.ListN.{length, get_or, take, drop}
 use lib.Ieee.{Float, nan}
 use borrow.Rule.Slice.PartMut.{put_mid, mid_of}
-use Rattle.rules.specs.Limits.{max_area}
+use Rattle.rules.specs.Limits.{max_side}
 use Rattle.rules.specs.Picture.{area, by_pixel, filled}
 use Rattle.rules.specs.Sums.{to_byte}
 use Rattle.rules.specs.declared.Size.{Size}
@@ -21,7 +21,7 @@ pub record RunAt (d : Size) (at : ℕ) : Type 0 where
   pub within : at < area d
   pub column : at % d.width < d.width
   pub row : at / d.width < d.height
-  pub small : area d ≤ max_area
+  pub small : area d ≤ max_side * max_side
 
 pub run_at : {A : Type 0} {d : Size} {out : List A} {at : ℕ} → Whole d out → at < area d → RunAt d at
 run_at {d = d} {at = at} w l = record { within = l; column = column_in d at l; row = row_below d at l; small = mul-le-mul w.width_fits w.height_fits }

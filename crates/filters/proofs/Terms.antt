@@ -7,7 +7,7 @@ use native.Mathlib.Omega.{arith}
 use lib.ListN.{length, get_or, take, drop}
 use lib.IntN.{pos}
 use lib.Ieee.{Float, nan}
-use Rattle.rules.specs.Limits.{max_area}
+use Rattle.rules.specs.Limits.{max_side}
 use Rattle.rules.specs.Picture.{area, filled, cleared}
 use Rattle.rules.specs.Border.{resolved, entry_at, sample_at, under}
 use Rattle.rules.specs.Sums.{plus_zero, whole_f32}
@@ -34,7 +34,7 @@ cleared_all b e = rw (min-eq_left b.room) at e
 
 -- row r ends in the picture, which is small
 pub row_ends : {d : Size} {x y n r : ℕ} {sums : List Float} → Block d x y n sums → r < d.height
-    → (r * d.width + d.width ≤ area d) × (area d ≤ max_area)
+    → (r * d.width + d.width ≤ area d) × (area d ≤ max_side * max_side)
 row_ends {d} {r = r} b l = (row_in_lem r d.width d.height l, mul-le-mul b.width_fits b.height_fits)
 
 module _ {d : Size} {k : Kernel} {pixels : List ℕ} {weights : List Float} {x y n : ℕ} {sums : List Float} (b : ByteBlock d k pixels weights x y n sums) where

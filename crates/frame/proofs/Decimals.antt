@@ -1,5 +1,6 @@
 -- Numbers in decimal: the digits of a tenth, then the last; and how many there are. Assumes nothing.
-use mathlib.Core.Path.{◌≡◌, ap, ◌∙◌}
+use mathlib.Core.Path.{◌≡◌, refl, ap, ◌∙◌}
+use mathlib.Core.Bool.{Bool, true, false}
 use mathlib.Core.List.{[], ◌∷◌, ◌++◌}
 use Prim.Native.Nat.{ℕ, zero, suc, ◌+◌, ◌/◌, ◌%◌, ◌<◌, ◌≤◌}
 use native.Mathlib.Omega.{arith}
@@ -7,7 +8,6 @@ use lib.Dec.{ltb}
 use lib.ListN.{length, length-append}
 use borrow.Author.Tests.{lt-ltb, le-ltb, ltb-true, ltb-false}
 use Rattle.rules.specs.Frame.{decimal_by, decimal}
-use Rattle.rules.proofs.Bools.{by_test}
 
 -- any bound that is not below the number gives the same digits
 enough : (m k n : ℕ) → n ≤ m → n ≤ k → decimal_by (suc m) n ≡ decimal_by (suc k) n
@@ -35,9 +35,11 @@ length_1 n h = ap length (one_digit n h)
 
 -- at most one more than its tenth has; so a side has at most two, a count at most four
 one_more : (n k : ℕ) → length (decimal (n / 10)) ≤ k → length (decimal n) ≤ k + 1
-one_more n k h =
-    by_test (λ b. length (decimal n) ≤ k + 1) (ltb n 10) (λ e. omega (arith, length_1 n (ltb-true n 10 e)))
-    (λ e. omega (arith, length_more n (ltb-false n 10 e)))
+one_more n k h = go (ltb n 10) refl
+  where
+    go : (b : Bool) → ltb n 10 ≡ b → length (decimal n) ≤ k + 1
+    go true e = omega (arith, length_1 n (ltb-true n 10 e))
+    go false e = omega (arith, length_more n (ltb-false n 10 e))
 
 pub few_digits : (n : ℕ) → n < 100 → length (decimal n) ≤ 2
 few_digits n h = one_more n 1 (omega (arith, length_1 (n / 10) (omega arith)))

@@ -1,5 +1,5 @@
 -- What is printed for a file: a breach first, then more taps than a run takes, then what the run says. Assumes nothing.
-use mathlib.Core.Path.{◌≡◌, sym, ap, ◌∙◌}
+use mathlib.Core.Path.{◌≡◌, refl, sym, ap, ◌∙◌}
 use mathlib.Core.Bool.{or-true, true, false}
 use mathlib.Core.List.{List, ◌++◌}
 use Prim.Native.Nat.{ℕ, ◌+◌, ◌-◌, ◌*◌, ◌%◌, ◌<◌, ◌≤◌}
@@ -51,23 +51,32 @@ module _ (file : List ℕ) where
   run_is : (out : List ℕ) → area d ≤ length out → ran d (frame_pixels file) (frame_taps file) (thresholds_of file) out ≡ run out
   run_is out h = ran_is d (frame_pixels file) (frame_taps file) (thresholds_of file) out h
 
-  pub text_by : (out : List ℕ) → run_text file ≡ text_of d (run out)
+  run_text_lem : run_text file ≡ text_of d (ran d (frame_pixels file) (frame_taps file) (thresholds_of file) (zeros (area d)))
   unfolding run_text ran
+  run_text_lem = refl
+
+  pub text_by : (out : List ℕ) → run_text file ≡ text_of d (run out)
   text_by out =
-      ap (text_of d) (run_is (zeros (area d)) (omega (arith, length_tabulate {A = ℕ} (area d) (λ i. 0))))
+      run_text_lem
+      ∙ ap (text_of d) (run_is (zeros (area d)) (omega (arith, length_tabulate {A = ℕ} (area d) (λ i. 0))))
       ∙ text_same d (frame_pixels file) (frame_taps file) (thresholds_of file) (zeros (area d)) out
 
   -- ---- what the layout grants
 
+  pixels_whole : Laid file → length (frame_pixels file) ≡ area d
+  unfolding frame_pixels
+  pixels_whole l = length-drop (pixel_offset file) file ∙ omega (arith, l.whole)
+
+  taps_counted : length (frame_taps file) ≡ tap_count file
+  unfolding frame_taps
+  taps_counted = length_tabulate (tap_count file) _
+
   -- sides and pixels pass, so that the tap count is the first row that applies
   three : Laid file → max_taps < tap_count file → first (front d (frame_pixels file) (frame_taps file) (thresholds_of file)) ≡ 3
-  unfolding frame_pixels frame_taps
   three l h =
       let w = le-ltb max_side d.width (omega (arith, l.width)) in
       let k = le-ltb max_side d.height (omega (arith, l.height)) in
-      let whole : length (frame_pixels file) ≡ area d = length-drop (pixel_offset file) file ∙ omega (arith, l.whole) in
-      let counted : length (frame_taps file) ≡ tap_count file = length_tabulate (tap_count file) _ in
-      rw (w, k, input_fits d (frame_pixels file) whole, many (length (frame_taps file)) (omega arith))
+      rw (w, k, input_fits d (frame_pixels file) (pixels_whole l), many (length (frame_taps file)) (omega (arith, taps_counted)))
 
   pub many_taps : Laid file → max_taps < tap_count file → run_text file ≡ refused_text 3
   many_taps l h = text_by (zeros (area d)) ∙ rw (three l h)

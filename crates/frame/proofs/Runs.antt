@@ -18,7 +18,6 @@ use Rattle.rules.specs.Frame.{fresh_scratch, pixel_text, newline, edges_text, ro
 use Rattle.rules.specs.declared.Size.{Size}
 use Rattle.rules.specs.declared.Thresholds.{Thresholds}
 use Rattle.rules.specs.declared.Counted.{Counted}
-use Rattle.rules.proofs.Bools.{by_test}
 use Rattle.rules.proofs.Fill.{length_tabulate, tabulate_cong, filled_at}
 use Rattle.rules.proofs.Grid.{pixel_in}
 use Rattle.rules.proofs.Runs.{front, roomy}
@@ -35,15 +34,18 @@ module _ (d : Size) where
   -- the rows show the first width * height entries alone
   rows_same : (f : ℕ → ℕ) (a b : List ℕ) → rows_text d (filled (area d) f a) ≡ rows_text d (filled (area d) f b)
   rows_same f a b =
-      rw (rows_are d (filled (area d) f a), rows_are d (filled (area d) f b)) (tabulate_cong (d.height * (d.width + 1)) _ _ (λ i h.
-      let p = i / (d.width + 1) * d.width + i % (d.width + 1) in
-      let line : 0 < d.width + 1 = omega arith in
-      by_test (λ c. cond c (pixel_text (get_or (filled (area d) f a) p 0)) newline ≡ cond c (pixel_text (get_or (filled (area d) f b) p 0)) newline)
-      (ltb (i % (d.width + 1)) d.width)
-      (λ e.
-      let q = pixel_in d (i % (d.width + 1)) (i / (d.width + 1)) (ltb-true _ _ e) ((div-lt_iff_lt-mul line).1 h) in
-      ap pixel_text (filled_at (area d) f a _ 0 p refl q ∙ sym (filled_at (area d) f b _ 0 p refl q)))
-      (λ e. refl)))
+      rw (rows_are d (filled (area d) f a), rows_are d (filled (area d) f b)) (tabulate_cong (d.height * (d.width + 1)) _ _ (λ i h. go i h _ refl))
+    where
+      at : ℕ → ℕ
+      at i = i / (d.width + 1) * d.width + i % (d.width + 1)
+
+      go : (i : ℕ) → i < d.height * (d.width + 1) → (c : Bool) → ltb (i % (d.width + 1)) d.width ≡ c
+          → cond c (pixel_text (get_or (filled (area d) f a) (at i) 0)) newline ≡ cond c (pixel_text (get_or (filled (area d) f b) (at i) 0)) newline
+      go i h true e =
+          let line : 0 < d.width + 1 = omega arith in
+          let q = pixel_in d (i % (d.width + 1)) (i / (d.width + 1)) (ltb-true _ _ e) ((div-lt_iff_lt-mul line).1 h) in
+          ap pixel_text (filled_at (area d) f a _ 0 (at i) refl q ∙ sym (filled_at (area d) f b _ 0 (at i) refl q))
+      go i h false e = refl
 
 -- ---- a run
 
@@ -83,11 +85,17 @@ module _ (d : Size) (pixels : List ℕ) (taps : List Float) (t : Thresholds) whe
       fresh z = omega (arith, length_tabulate (area d) (λ i. z))
 
   pub text_same : (a b : List ℕ) → text_of d (outcome a) ≡ text_of d (outcome b)
-  text_same a b =
-      by_test (λ c. text_of d (pick c (first rows) a) ≡ text_of d (pick c (first rows) b)) (eqb (first rows) 0)
-      (λ e. rw (rows_same d (λ q. get_or (run_edges d pixels taps t) q 0) a b)) (λ e. rw e)
+  text_same a b = go (eqb (first rows) 0) refl
+    where
+      go : (c : Bool) → eqb (first rows) 0 ≡ c → text_of d (pick c (first rows) a) ≡ text_of d (pick c (first rows) b)
+      go true e = rw (rows_same d (λ q. get_or (run_edges d pixels taps t) q 0) a b)
+      go false e = rw e
 
   -- a run counts at most its pixels
   pub count_few : (out : List ℕ) → (outcome out).0.count ≤ area d
   unfolding count_of
-  count_few out = by_test (λ c. (pick c (first rows) out).0.count ≤ area d) (eqb (first rows) 0) (λ e. tally_all _ (area d)) (λ e. omega arith)
+  count_few out = go (eqb (first rows) 0)
+    where
+      go : (c : Bool) → (pick c (first rows) out).0.count ≤ area d
+      go true = tally_all _ (area d)
+      go false = omega arith

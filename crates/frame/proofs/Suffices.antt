@@ -1,6 +1,6 @@
 -- 2,369 bytes hold the printout of every file, and what is returned counts bytes of the text. Assumes nothing.
-use mathlib.Core.Path.{◌≡◌, sym, ap}
-use mathlib.Core.Bool.{false, cond}
+use mathlib.Core.Path.{◌≡◌, refl, sym, ap}
+use mathlib.Core.Bool.{Bool, true, false, cond}
 use mathlib.Core.List.{List, [], ◌∷◌, ◌++◌}
 use Prim.Native.Nat.{ℕ, ◌<◌, ◌≤◌}
 use native.Mathlib.Omega.{arith}
@@ -11,7 +11,6 @@ use Rattle.rules.specs.Picture.{area, zeros}
 use Rattle.rules.specs.Refusals.{Rule, first}
 use Rattle.rules.specs.Frame.{breach, frame_size, frame_pixels, frame_taps, thresholds_of, edges_text, rows_text, refused_text, run_text, printout, printed}
 use Rattle.rules.specs.declared.Size.{Size}
-use Rattle.rules.proofs.Bools.{by_test}
 use Rattle.frame.specs.Room.{text_room, TextFits, Small}
 use Rattle.frame.proofs.Breaches.{laid}
 use Rattle.frame.proofs.Decimals.{few_digits}
@@ -30,7 +29,11 @@ Numbers k (r ∷ rs) = (r.number < k) × Numbers k rs
 
 first_below : (k : ℕ) (rs : List Rule) → 0 < k → Numbers k rs → first rs < k
 first_below k [] h p = h
-first_below k (r ∷ rs) h p = by_test (λ b. cond b r.number (first rs) < k) r.applies (λ e. p.0) (λ e. first_below k rs h p.1)
+first_below k (r ∷ rs) h p = go r.applies (first_below k rs h p.1)
+  where
+    go : (b : Bool) → first rs < k → cond b r.number (first rs) < k
+    go true l = p.0
+    go false l = l
 
 edges_fit : {d : Size} {count : ℕ} (map : List ℕ) → Small d count → length (edges_text d count ++ rows_text d map) ≤ text_room
 edges_fit {d} {count} map s = omega (arith, length-append (edges_text d count) (rows_text d map), length_edges d count, length_rows d map, lengths s)
@@ -45,17 +48,19 @@ module _ (file : List ℕ) where
   run_fits : breach file ≡ false → length (run_text file) ≤ text_room
   run_fits e =
       rw (text_by file (zeros (area d)))
-      (by_test
-      (λ b. let x = pick d (frame_pixels file) (frame_taps file) (thresholds_of file) b (first rows) (zeros (area d)) in
-      x.0.count ≤ area d → length (text_of d x) ≤ text_room) (eqb (first rows) 0)
-      (λ q k. let l = laid file e in rw q (edges_fit _ (record { wide = l.width; high = l.height; few = omega (arith, k, l.small) })))
-      (λ q k. rw q (refused_fits (first rows) (first_below 100 rows (omega arith) (omega arith))))
-      (count_few d (frame_pixels file) (frame_taps file) (thresholds_of file) (zeros (area d))))
+      (go (eqb (first rows) 0) refl (count_few d (frame_pixels file) (frame_taps file) (thresholds_of file) (zeros (area d))))
+    where
+      go : (b : Bool) → eqb (first rows) 0 ≡ b → (let x = pick d (frame_pixels file) (frame_taps file) (thresholds_of file) b (first rows) (zeros (area d)) in
+          x.0.count ≤ area d → length (text_of d x) ≤ text_room)
+      go true q k = let l = laid file e in rw q (edges_fit _ (record { wide = l.width; high = l.height; few = omega (arith, k, l.small) }))
+      go false q k = rw q (refused_fits (first rows) (first_below 100 rows (omega arith) (omega arith)))
 
 pub text_fits : TextFits
-text_fits file =
-    by_test (λ b. length (printout file) ≤ text_room) (breach file) (λ e. rw (breached file e) (refused_fits 11 (omega arith)))
-    (λ e. rw (kept file e) (run_fits file e))
+text_fits file = go (breach file) refl
+  where
+    go : (b : Bool) → breach file ≡ b → length (printout file) ≤ text_room
+    go true e = rw (breached file e) (refused_fits 11 (omega arith))
+    go false e = rw (kept file e) (run_fits file e)
 
 -- what is returned counts bytes of the text, in the form that lending the text's first bytes asks for
 pub counts : {r : ℕ} {now : List ℕ} (file : List ℕ) (read : ℕ) (text : List ℕ) → ◌≡◌ {A = ℕ × List ℕ} (r, now) (printed file read text)

@@ -1,6 +1,6 @@
 -- Bytes stored one after another from a place of a text. Assumes nothing.
 use mathlib.Core.Path.{◌≡◌, refl, ap, ◌∙◌}
-use mathlib.Core.Bool.{cond}
+use mathlib.Core.Bool.{Bool, true, false, cond}
 use mathlib.Core.List.{List, [], ◌∷◌, ◌++◌, append_assoc, append-nil}
 use Prim.Native.Nat.{ℕ, suc, ◌+◌, ◌-◌, ◌*◌, ◌/◌, ◌%◌, ◌<◌, ◌≤◌}
 use native.Mathlib.Nat.{zero-add, add-mul, mul_comm, mul-le-mul}
@@ -14,7 +14,6 @@ use borrow.Rule.Slice.PartMut.{put_mid, mid_of}
 use Rattle.rules.specs.Picture.{tabulate, filled}
 use Rattle.rules.specs.Frame.{newline, space, decimal, refused_text, edges_text, rows_text, pixel_text, placed}
 use Rattle.rules.specs.declared.Size.{Size}
-use Rattle.rules.proofs.Bools.{by_test}
 use Rattle.rules.proofs.Fill.{length_tabulate, Filling, filling_part}
 use Rattle.rules.proofs.Grid.{row_in_lem, column_of_lem, row_of_lem, part_length, part_at}
 use Rattle.frame.specs.Room.{Small, Rows}
@@ -29,10 +28,6 @@ sets_append (x ∷ a) b l i = let e : i + suc (length a) ≡ suc i + length a = 
 pub record Put (o : List ℕ) (i : ℕ) (a : List ℕ) (e : ℕ) (l : List ℕ) : Type 0 where
   pub place : e ≡ i + length a
   pub is : l ≡ sets o i a
-
--- as the contracts say it
-pub put_of : (o : List ℕ) (i : ℕ) (a : List ℕ) {e : ℕ} {l : List ℕ} → (e ≡ i + length a) × (l ≡ sets o i a) → Put o i a e l
-put_of o i a p = record { place = p.0; is = p.1 }
 
 pub put_length : {o a l : List ℕ} {i e : ℕ} → Put o i a e l → length l ≡ length o
 put_length {o} {a} {i = i} p = ap length p.is ∙ length-sets o i a
@@ -64,6 +59,10 @@ copy_more word {at} i h p =
     let t : take (i + 1) word ≡ take i word ++ (get_or word i 0 ∷ []) = rw add-one (take-suc word i 0 h) in
     rw (e, t) (then_byte (get_or word i 0) p)
 
+-- from the start: the bytes, then what was behind them
+from_start : (p o : List ℕ) → length p ≤ length o → sets o 0 p ≡ p ++ drop (length p) o
+from_start p o h = sets-eq p o 0 (omega arith) ∙ rw zero-add
+
 -- bytes that a callee wrote over a part of the text, from a to e
 part_sets : (p l part : List ℕ) (a e : ℕ) → e ≡ a + length p → e ≤ length l → part ≡ p ++ drop (length p) (mid_of a (e - a) l)
     → put_mid a (e - a) l part ≡ sets l a p
@@ -72,12 +71,10 @@ part_sets p l part a e q h m =
     let s : length (take (length p) (drop a l)) ≤ length p = simp (length-take, length-drop) (omega arith) in
     rw (m, k, drop_of_length-le (take (length p) (drop a l)) s, append-nil, drop-drop (length p) a l, sets-eq p l a (omega arith)) (simp append_assoc)
 
--- the whole written from the start: the bytes, then what was behind them
+-- the whole written from the start
 pub from_first : (p text : List ℕ) {l : List ℕ} {r : ℕ} → length p ≤ length text → Put text 0 p r l → (r, l) ≡ placed p text
 from_first p text h q =
-    let e : ◌≡◌ {A = ℕ} (0 + length p) (length p) = omega arith in
-    let s : sets text 0 p ≡ p ++ drop (length p) text = sets-eq p text 0 (omega arith) ∙ rw zero-add in
-    rw (q.place, e, q.is, s)
+    let e : ◌≡◌ {A = ℕ} (0 + length p) (length p) = omega arith in rw (q.place, e, q.is, from_start p text h)
 
 -- ---- the printout's parts
 
@@ -96,6 +93,10 @@ field_more n after p q = then p (record { place = q.0 ∙ simp length-append; is
 
 abbrev pub refused_word : List ℕ
 refused_word = 114 ∷ 101 ∷ 102 ∷ 117 ∷ 115 ∷ 101 ∷ 100 ∷ space ∷ []
+
+pub refused_fields : (n : ℕ) → refused_word ++ field n newline ≡ refused_text n
+unfolding refused_text
+refused_fields n = refl
 
 abbrev pub edges_word : List ℕ
 edges_word = 101 ∷ 100 ∷ 103 ∷ 101 ∷ 115 ∷ space ∷ []
@@ -159,15 +160,15 @@ module _ (d : Size) (map : List ℕ) where
     pub room : (y * line + line ≤ length o) × (d.height * line ≤ 2352)
     room = let wide : line ≤ 49 = omega (arith, p.wide) in (omega (arith, target, p.room), mul-le-mul p.high wide)
 
-    row_long : length (row_of y) ≡ d.width
+    pub row_long : length (row_of y) ≡ d.width
     row_long = part_length map (y * d.width) (y * d.width + d.width) d.width refl source
 
     row_at : (i : ℕ) → i < line → line_of y i ≡ shown_at (y * line + i)
-    row_at i k =
-        rw (column_of_lem y k, row_of_lem y k, row_long)
-        (by_test (λ b. cond b (pixel_text (get_or (row_of y) i 0)) newline ≡ cond b (pixel_text (get_or map (y * d.width + i) 0)) newline)
-        (ltb i d.width)
-        (λ e. ap pixel_text (part_at map (y * d.width) (y * d.width + d.width) d.width refl i 0 (ltb-true i d.width e))) (λ e. refl))
+    row_at i k = rw (column_of_lem y k, row_of_lem y k, row_long) (go (ltb i d.width) refl)
+      where
+        go : (b : Bool) → ltb i d.width ≡ b → cond b (pixel_text (get_or (row_of y) i 0)) newline ≡ cond b (pixel_text (get_or map (y * d.width + i) 0)) newline
+        go true e = ap pixel_text (part_at map (y * d.width) (y * d.width + d.width) d.width refl i 0 (ltb-true i d.width e))
+        go false e = refl
 
     -- a row more
     pub rows_more : {l part : List ℕ} → Filling (d.height * line) (y * line) shown_at o l

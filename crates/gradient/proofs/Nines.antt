@@ -22,7 +22,7 @@ use Rattle.rules.proofs.Grid.{row_in_lem}
 use Rattle.rules.proofs.Border.{diff, resolved_inside}
 use Rattle.refusals.specs.Rows.{Picture}
 use Rattle.border.specs.Reading.{placed, read_at}
-use Rattle.border.proofs.Reading.{placed_is, read_is}
+use Rattle.border.proofs.Reading.{placed_is, read_in_lem, read_is}
 use Rattle.pixel.specs.Components.{component, nine_energy}
 use Rattle.pixel.specs.Halving.{held}
 use Rattle.pixel.proofs.Halving.{held_byte}
@@ -69,7 +69,7 @@ module _ (d : Size) (mode : BorderMode) (pixels : List ℕ) (p : Picture d pixel
 
   -- a sample, by the row that it stands in
   sample : (cx cy : ℤ) → 0 < d.width → 0 < d.height → get_or (row_in d pixels (placed mode cy d.height)) (placed mode cx d.width) 0 ≡ byte_sample pixels d mode cx cy
-  sample cx cy w h = row_byte d pixels _ _ ∙ read_is d pixels mode cx cy p.sides w h
+  sample cx cy w h = row_byte d pixels _ _ ∙ sym (read_in_lem d pixels p _ _) ∙ read_is d pixels p mode cx cy w h
 
   module _ (x y : ℕ) (inx : x < d.width) (iny : y < d.height) where
     -- place (i, j) of the nine

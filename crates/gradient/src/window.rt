@@ -1,6 +1,6 @@
 // The nine bytes about a pixel, from three rows that are lent as slices: the pixel's own, the one above it and the one below it. A row that
 // is nowhere is lent as no bytes, and a byte that a row does not have is 0.
-ghost use Rattle.std.specs.Prelude.{◌≡◌, ◌+◌, ◌-◌, ◌≤◌, ◌<◌, length};
+ghost use Rattle.std.specs.Prelude.{◌≡◌, ◌+◌, ◌-◌, ◌≤◌, ◌<◌, length, get_or};
 ghost use Rattle.rules.specs.Limits.{max_side};
 ghost use Rattle.rules.specs.Accepted.{Sides};
 ghost use Rattle.rules.specs.Border.{under};
@@ -8,7 +8,6 @@ ghost use Rattle.border.specs.Reading.{placed};
 ghost use Rattle.gradient.specs.Nine.{SpanOf, nine_of, nine_in, HasBeside, InnerColumns};
 
 use border::coord::place;
-use border::picture::byte_at;
 use rules::{BorderMode, Size};
 use scratch::least;
 
@@ -33,6 +32,15 @@ pub(crate) fn span_of(size: Size, border: BorderMode, y: usize, j: usize) -> Spa
         };
     }
     Span { start: 0, end: 0 }
+}
+
+fn byte_at(row: &[u8], i: usize) -> u8
+    ensures { result ≡ get_or row.now i 0 }
+{
+    if i < row.len() {
+        return row[i];
+    }
+    0
 }
 
 // The nine about column x, whose own place and those beside it are given.

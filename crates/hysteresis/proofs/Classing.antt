@@ -11,16 +11,18 @@ use lib.Seq.{get_or-set_other}
 use Rattle.rules.specs.Picture.{tabulate, cleared}
 use Rattle.rules.specs.Walk.{State, state, has, class, classed, started}
 use Rattle.hysteresis.specs.Split.{mark_of, marked, put, stacked}
-use Rattle.rules.proofs.Bools.{by_test}
 use Rattle.rules.proofs.Fill.{fill_more, filled_at}
 
 -- no more are pending than were looked at
+put_few : (b : Bool) (i : ℕ) (s : List ℕ × ℕ) → s.1 ≤ i → (put b i s).1 ≤ suc i
+unfolding put
+put_few true i s h = omega arith
+put_few false i s h = omega arith
+
 stacked_few : (hi : ℕ → Bool) (i : ℕ) (stack : List ℕ) → (stacked hi i stack).1 ≤ i
-unfolding stacked put
+unfolding stacked
 stacked_few hi zero stack = omega arith
-stacked_few hi (suc i) stack =
-    let h = stacked_few hi i stack in
-    by_test (λ b. (put b i (stacked hi i stack)).1 ≤ suc i) (hi i) (λ e. omega arith) (λ e. omega arith)
+stacked_few hi (suc i) stack = put_few (hi i) i (stacked hi i stack) (stacked_few hi i stack)
 
 pub few_stacked : (hi : ℕ → Bool) (i : ℕ) (stack : List ℕ) {s : List ℕ} {p : ℕ} → (s, p) ≡ stacked hi i stack → p ≤ i
 few_stacked hi i stack e = omega (arith, stacked_few hi i stack, ap (λ (t : List ℕ × ℕ). t.1) e)
@@ -65,15 +67,16 @@ both_passes hi lo marks stack {n} {p} {m} {s} h e f =
 
 -- ---- places from the pending count on hold 0 (01.Walk.5)
 
-classed_zero : (hi lo : ℕ → Bool) (k i : ℕ) (s : State) → get_or s.stack i 0 ≡ 0
-    → (classed hi lo k s).pending ≤ i → get_or (classed hi lo k s).stack i 0 ≡ 0
-unfolding classed class
-classed_zero hi lo zero i s z = λ p. z
-classed_zero hi lo (suc k) i s z =
-    let t = classed hi lo k s in
-    let h = classed_zero hi lo k i s z in
-    by_test (λ b. (class b (lo k) k t).pending ≤ i → get_or (class b (lo k) k t).stack i 0 ≡ 0) (hi k)
-    (λ e p. get_or-set_other t.stack t.pending i k 0 (omega arith) ∙ h (omega arith)) (λ e p. h p)
+class_zero : (a b : Bool) (k i : ℕ) (t : State) → (t.pending ≤ i → get_or t.stack i 0 ≡ 0) → (class a b k t).pending ≤ i
+    → get_or (class a b k t).stack i 0 ≡ 0
+unfolding class
+class_zero true b k i t h p = get_or-set_other t.stack t.pending i k 0 (omega arith) ∙ h (omega arith)
+class_zero false b k i t h p = h p
+
+classed_zero : (hi lo : ℕ → Bool) (k i : ℕ) (s : State) → get_or s.stack i 0 ≡ 0 → (classed hi lo k s).pending ≤ i → get_or (classed hi lo k s).stack i 0 ≡ 0
+unfolding classed
+classed_zero hi lo zero i s z p = z
+classed_zero hi lo (suc k) i s z p = class_zero (hi k) (lo k) k i (classed hi lo k s) (classed_zero hi lo k i s z) p
 
 pub places_zero : (hi lo : ℕ → Bool) (n : ℕ) (marks stack : List ℕ)
     → let s = started hi lo n marks stack in (i : ℕ) → s.pending ≤ i → i < n → get_or s.stack i 0 ≡ 0

@@ -1,9 +1,10 @@
 -- DEMAND 3 of every accepted start and whatever calls follow it, and what a slice's count of takes is worth. Assumes nothing.
-use Prim.Native.Nat.{ℕ, zero, suc, ◌+◌, ◌≤◌, ◌<◌, min, zero-le}
-use native.Mathlib.Nat.{add_assoc, eq-or-lt_of_le}
+use Prim.Native.Nat.{ℕ, zero, suc, ◌+◌, ◌≤◌, ◌<◌, min}
+use native.Mathlib.Decide.{ℕ_discrete}
+use native.Mathlib.Nat.{add_assoc}
 use native.Mathlib.Omega.{arith}
 use mathlib.Core.Path.{◌≡◌, refl, sym, ap, ◌∙◌}
-use mathlib.Core.Logic.{◌≢◌, ⊎_elim}
+use mathlib.Core.Logic.{◌≢◌}
 use mathlib.Core.Bool.{Bool, true, false, not, cond}
 use mathlib.Core.List.{List, [], ◌∷◌}
 use lib.Dec.{T, eqb, eqb→eq}
@@ -22,7 +23,8 @@ use Rattle.rules.specs.Joined.Way.{here, on}
 use Rattle.rules.specs.declared.Size.{Size}
 use Rattle.rules.specs.declared.Thresholds.{Thresholds}
 use Rattle.rules.specs.declared.Walk.{Walk}
-use Rattle.rules.proofs.Bools.{by_test, true_is, is_true, neither}
+use Rattle.rules.specs.declared.Started.{Started}
+use Rattle.rules.proofs.Bools.{true_is, is_true, neither}
 use Rattle.rules.proofs.Fill.{filled_at}
 use Rattle.rules.proofs.Rows.{rows}
 use Rattle.rules.proofs.Tallies.{tally_all, tally_le, tally_less, tally_zero}
@@ -91,7 +93,11 @@ module _ (d : Size) (hi lo : ℕ → Bool) where
         )
 
     over : done s ≡ N → s.pending ≡ 0
-    over e = ⊎_elim sym (λ z. absurd (omega (arith, fewer z))) (eq-or-lt_of_le zero-le)
+    over e = go (ℕ_discrete s.pending 0)
+      where
+        go : Dec (s.pending ≡ 0) → s.pending ≡ 0
+        go (yes z) = z
+        go (no z) = absurd (omega (arith, fewer (omega arith)))
 
     -- ---- what the next call is answered
 
@@ -135,24 +141,29 @@ module _ (d : Size) (hi lo : ℕ → Bool) where
   slice_keeps : (b : ℕ) (s : State) (k : ℕ) → Inv d hi lo s → done s ≡ min N k → Sliced k b s (sliced d b s) (takes d b s)
   unfolding sliced takes
   slice_keeps zero s k h e = record { inv = h; finished = omega arith; made_is = omega arith }
-  slice_keeps (suc b) s k h e =
-      by_test (λ c. Sliced k (suc b) s (cond c s (sliced d b (taken d s))) (cond c 0 (suc (takes d b (taken d s))))) (eqb s.pending 0)
-      (λ z. let a = exactly h (eqb-true s.pending 0 z) in record { inv = h; finished = omega arith; made_is = omega arith })
-      (λ z.
-      let n = eqb-false s.pending 0 z in
-      let p : 0 < s.pending = omega arith in
-      let f = fewer h p in
-      let t = take_finishes d hi lo h p in
-      let a = slice_keeps b (taken d s) (k + 1) (take_keeps d hi lo h p) (omega arith) in
-      record { inv = a.inv; finished = omega (arith, a.finished); made_is = omega (arith, a.made_is) })
+  slice_keeps (suc b) s k h e = go (eqb s.pending 0) refl (slice_keeps b (taken d s) (k + 1))
+    where
+      go : (c : Bool) → eqb s.pending 0 ≡ c
+          → (Inv d hi lo (taken d s) → done (taken d s) ≡ min N (k + 1) → Sliced (k + 1) b (taken d s) (sliced d b (taken d s)) (takes d b (taken d s)))
+          → Sliced k (suc b) s (cond c s (sliced d b (taken d s))) (cond c 0 (suc (takes d b (taken d s))))
+      go true z ih = let a = exactly h (eqb-true s.pending 0 z) in record { inv = h; finished = omega arith; made_is = omega arith }
+      go false z ih =
+          let n = eqb-false s.pending 0 z in
+          let p : 0 < s.pending = omega arith in
+          let f = fewer h p in
+          let t = take_finishes d hi lo h p in
+          let a = ih (take_keeps d hi lo h p) (omega arith) in
+          record { inv = a.inv; finished = omega (arith, a.finished); made_is = omega (arith, a.made_is) }
 
   -- a call of slice: accepted, or refused and as if its budget were 0
   call_keeps : (b : ℕ) (s : State) (k : ℕ) → Inv d hi lo s → done s ≡ min N k
       → Sliced k (spent_by (slice b) (held_of d s)) s (after_slice d b s) (slice_takes d b s)
   unfolding Calls.slice after_slice slice_takes
-  call_keeps b s k h e =
-      by_test (λ c. Sliced k (cond c b 0) s (cond c (sliced d b s) s) (cond c (takes d b s) 0)) (eqb (first (slice_rows d b s)) 0)
-      (λ z. slice_keeps b s k h e) (λ z. record { inv = h; finished = omega arith; made_is = omega arith })
+  call_keeps b s k h e = go (eqb (first (slice_rows d b s)) 0)
+    where
+      go : (c : Bool) → Sliced k (cond c b 0) s (cond c (sliced d b s) s) (cond c (takes d b s) 0)
+      go true = slice_keeps b s k h e
+      go false = record { inv = h; finished = omega arith; made_is = omega arith }
 
   -- ---- calls one after another
 
@@ -200,25 +211,17 @@ module _ (d : Size) (hi lo : ℕ → Bool) (above : (q : ℕ) → T (hi q) → T
       rw (a.is, same_count d hi lo J _ tells (joined_tells d hi lo), ← joined_count_lem d hi lo)
       (progress d hi lo a.inv sides _ (omega (arith, a.finished)))
 
-  ended : Sliced d hi lo 0 (area d + 1) begun (sliced d (area d + 1) begun) (takes d (area d + 1) begun)
-  ended = slice_keeps d hi lo (area d + 1) begun 0 holds.0 (omega (arith, holds.1))
-
   -- a slice with the budget width * height + 1 ends the walk, and then mark 3 tells exactly the joined pixels, whatever the buffers held
   pub started_tells : let t = sliced d (area d + 1) begun in (t.pending ≡ 0) × Tells d hi lo (has 3 t.marks)
   started_tells =
-      let i = ended.inv in
-      let p = over d hi lo i (omega (arith, ended.finished, tally_all (joined d hi lo) (area d), joined_count_lem d hi lo)) in (
+      let a = slice_keeps d hi lo (area d + 1) begun 0 holds.0 (omega (arith, holds.1)) in
+      let p = over d hi lo a.inv (omega (arith, a.finished, tally_all (joined d hi lo) (area d), joined_count_lem d hi lo)) in (
         p,
         record {
-          sound = λ q l z. three_joined d hi lo i q l (eqb→eq _ _ z);
-          complete = λ q j. is_true (eq-eqb _ _ (ends d hi lo i p q j));
+          sound = λ q l z. three_joined d hi lo a.inv q l (eqb→eq _ _ z);
+          complete = λ q j. is_true (eq-eqb _ _ (ends d hi lo a.inv p q j));
         },
       )
-
-  -- that slice is accepted, and after it a map request with room
-  pub started_goes : Sides d → (first (slice_rows d (area d + 1) begun) ≡ 0)
-      × ((out : List ℕ) → area d ≤ length out → first (map_rows d (sliced d (area d + 1) begun) out) ≡ 0)
-  started_goes sides = (next d hi lo holds.0 sides (area d + 1) (omega arith), map_given d hi lo ended.inv sides started_tells.0)
 
   takes_are : (calls : List Call) (b : ℕ) → AllGoOn calls (held_of d begun)
       → let h = after_all calls (held_of d begun) in
@@ -229,9 +232,15 @@ module _ (d : Size) (hi lo : ℕ → Bool) (above : (q : ℕ) → T (hi q) → T
 
 -- ---- an accepted start by magnitudes
 
+-- both answers carry the number
+either_way : {A : Type 0} (f : A → ℕ) (c : Bool) (x y : A) (n : ℕ) → f x ≡ n → f y ≡ n → f (cond c x y) ≡ n
+either_way f true x y n p q = p
+either_way f false x y n p q = q
+
 module _ (d : Size) (t : Thresholds) (magnitudes : List Float) (marks stack : List ℕ) (e : (Calls.start d t magnitudes marks stack).0.refusal ≡ 0) where
   number : first (start_rows d t magnitudes marks stack) ≡ 0
-  number = sym (start_kept.number (d, t, magnitudes) (marks, stack)) ∙ e
+  unfolding Calls.start
+  number = sym (either_way (λ (a : Started × (List ℕ × List ℕ)). a.0.refusal) (eqb (first (start_rows d t magnitudes marks stack)) 0) _ _ _ refl refl) ∙ e
 
   ok : Startable d t magnitudes marks stack
   ok = startable d t magnitudes marks stack number
@@ -252,10 +261,12 @@ module _ (d : Size) (t : Thresholds) (magnitudes : List Float) (marks stack : Li
   unfolding after_start
   end_tells = started_tells d _ _ above marks stack ok.marks_long ok.stack_long
 
-  pub end_goes : let s = after_start d t magnitudes marks stack in (first (slice_rows d (area d + 1) s) ≡ 0)
-      × ((out : List ℕ) → area d ≤ length out → first (map_rows d (sliced d (area d + 1) s) out) ≡ 0)
+  progress_is : (J : ℕ → Bool) → Tells d (hi d t magnitudes marks stack) (lo d t magnitudes marks stack) J
+      → (calls : List Call) → AllGoOn calls (held_at_start d t magnitudes marks stack)
+      → let h = held_at_start d t magnitudes marks stack in
+      Progress d (hi d t magnitudes marks stack) (lo d t magnitudes marks stack) (tally J (area d)) (spent calls h) (after_all calls h)
   unfolding after_start
-  end_goes = started_goes d _ _ above marks stack ok.marks_long ok.stack_long ok.sides
+  progress_is J tells calls g = rw held_is (come d _ _ above marks stack ok.marks_long ok.stack_long ok.sides J tells calls (rw held_is at g))
 
   -- ON EVERY STATE THAT A START AND CALLS AFTER IT LEFT, A SLICE'S TAKES ARE ITS NEW MARKS 3
   pub takes_finish : (calls : List Call) (b : ℕ) → AllGoOn calls (held_at_start d t magnitudes marks stack)
@@ -267,14 +278,7 @@ module _ (d : Size) (t : Thresholds) (magnitudes : List Float) (marks stack : Li
 
 -- DEMAND 3 holds of every start
 pub demand_3 : (d : Size) (t : Thresholds) (magnitudes : List Float) (marks stack : List ℕ) → Demand3 d t magnitudes marks stack
-unfolding after_start
-demand_3 d t magnitudes marks stack = record {
-  told = (joined d _ _, joined_tells d _ _);
-  progress = λ e J tells calls g.
-      let o = ok d t magnitudes marks stack e in
-      let is = held_is d t magnitudes marks stack e in
-      rw is (come d _ _ (above d t magnitudes marks stack e) marks stack o.marks_long o.stack_long o.sides J tells calls (rw is at g));
-}
+demand_3 d t magnitudes marks stack = record { told = (joined d _ _, joined_tells d _ _); progress = progress_is d t magnitudes marks stack }
 
 -- ---- the takes on every state, forged ones included
 
@@ -287,9 +291,12 @@ again d (suc k) s = again d k (taken d s)
 pub takes_are_steps : (d : Size) (b : ℕ) (s : State) → sliced d b s ≡ again d (takes d b s) s
 unfolding sliced takes again
 takes_are_steps d zero s = refl
-takes_are_steps d (suc b) s =
-    by_test (λ c. cond c s (sliced d b (taken d s)) ≡ again d (cond c 0 (suc (takes d b (taken d s)))) s) (eqb s.pending 0)
-    (λ e. refl) (λ e. takes_are_steps d b (taken d s))
+takes_are_steps d (suc b) s = go (eqb s.pending 0) (takes_are_steps d b (taken d s))
+  where
+    go : (c : Bool) → sliced d b (taken d s) ≡ again d (takes d b (taken d s)) (taken d s)
+        → cond c s (sliced d b (taken d s)) ≡ again d (cond c 0 (suc (takes d b (taken d s)))) s
+    go true ih = refl
+    go false ih = ih
 
 -- A forged state that refusal 9 lets through can break `takes_finish`: one pixel, finished and pending as well.
 abbrev pub one : Size

@@ -4,7 +4,7 @@ use native.Mathlib.Nat.{eq-or-lt_of_le, mul-le-mul_right, le_of_mul-le-mul_right
 use native.Mathlib.Omega.{arith}
 use mathlib.Core.Path.{◌≡◌, refl, sym}
 use mathlib.Core.Logic.{⊎_elim}
-use mathlib.Core.Bool.{Bool, true, false, not, cond, ◌||◌}
+use mathlib.Core.Bool.{Bool, true, false, ◌||◌}
 use lib.Dec.{ltb, eqb}
 use lib.Ieee.{Float, nan, inf, fin, up, down, below, level, lt, le, eq}
 use lib.Ieee.Fits.{down_pos}
@@ -12,13 +12,18 @@ use lib.Ieee.Scale.{finite}
 use borrow.Author.Tests.{ltb-true, ltb-false, eqb-true, lt-ltb, le-ltb, eq-eqb}
 use Rattle.rules.proofs.Bools.{both, either, clash}
 
--- X where b holds: of ±X, by its sign, the part below zero, and by the sign's opposite the part above
-abbrev part : Bool → ℕ → ℕ
-part b X = cond b X 0
+-- a number's parts above and below zero: ±X is the first less the second
+abbrev over : Bool → ℕ → ℕ
+over false X = X
+over true X = 0
+
+abbrev under : Bool → ℕ → ℕ
+under false X = 0
+under true X = X
 
 -- ±X ≤ ±Y
 abbrev Le : Bool → ℕ → Bool → ℕ → Type 0
-Le s X t Y = part (not s) X + part t Y ≤ part (not t) Y + part s X
+Le s X t Y = over s X + under t Y ≤ over t Y + under s X
 
 -- at or below, by the float's own comparison
 to : (s t : Bool) (X Y : ℕ) → (below s X t Y || level s X t Y) ≡ true → Le s X t Y
@@ -45,9 +50,13 @@ total true false X Y e = omega arith
 total true true X Y e = omega (arith, ltb-false X Y e)
 
 -- a part of a product
-part_mul : (b : Bool) (a y : ℕ) → part b (a * y) ≡ part b a * y
-part_mul true a y = refl
-part_mul false a y = omega (arith, zero-mul y)
+over_mul : (s : Bool) (a y : ℕ) → over s (a * y) ≡ over s a * y
+over_mul false a y = refl
+over_mul true a y = omega (arith, zero-mul y)
+
+under_mul : (s : Bool) (a y : ℕ) → under s (a * y) ≡ under s a * y
+under_mul false a y = omega (arith, zero-mul y)
+under_mul true a y = refl
 
 -- fractions with the denominators x, y, z: the middle one is multiplied out and cancelled
 cancel : (a a' b b' c c' x y z : ℕ) → 0 < y → a * y + b' * x ≤ b * x + a' * y → b * z + c' * y ≤ c * y + b' * z → a * z + c' * x ≤ c * x + a' * z
@@ -55,8 +64,8 @@ cancel a a' b b' c c' x y z p h k = le_of_mul-le-mul_right {k = y} (omega (arith
 
 trans : (s t u : Bool) (a b c x y z : ℕ) → 0 < y → Le s (a * y) t (b * x) → Le t (b * z) u (c * y) → Le s (a * z) u (c * x)
 trans s t u a b c x y z p h k =
-    simp part_mul
-    (cancel (part (not s) a) (part s a) (part (not t) b) (part t b) (part (not u) c) (part u c) x y z p (simp part_mul at h) (simp part_mul at k))
+    simp (over_mul, under_mul)
+    (cancel (over s a) (under s a) (over t b) (under t b) (over u c) (under u c) x y z p (simp (over_mul, under_mul) at h) (simp (over_mul, under_mul) at k))
 
 -- low is not above high, and high is at most m: so low is
 pub lower : (low high m : Float) → finite low ≡ true → finite high ≡ true → lt high low ≡ false → le high m ≡ true → le low m ≡ true

@@ -3,7 +3,7 @@ use Prim.Native.Nat.{ℕ, zero, suc, ◌+◌, ◌-◌, ◌≤◌, ◌<◌, zero-
 use native.Mathlib.Nat.{le_refl}
 use native.Mathlib.Omega.{arith}
 use mathlib.Core.Path.{◌≡◌, refl, sym, ap, ◌∙◌}
-use mathlib.Core.Logic.{◌⊎◌, ⊎_elim, ◌≢◌}
+use mathlib.Core.Logic.{◌⊎◌, inl, inr, ⊎_elim, ◌≢◌}
 use mathlib.Core.Bool.{Bool, true, false}
 use mathlib.Core.List.{List}
 use lib.Dec.{T, eqb}
@@ -14,6 +14,7 @@ use Rattle.rules.specs.Picture.{area, bit, tally}
 use Rattle.rules.specs.Walk.{State, state, mark, has, count, push, pop, last}
 use Rattle.rules.specs.Joined.{Joined}
 use Rattle.rules.specs.declared.Size.{Size}
+use Rattle.rules.proofs.Tests.{below_suc}
 use Rattle.rules.proofs.Stores.{at_set}
 use Rattle.rules.proofs.Tallies.{tally_all, tally_eq, count_less, count_more}
 
@@ -81,21 +82,22 @@ module _ {d : Size} {hi lo : ℕ → Bool} where
     mark_in = omega (arith, h.marks_long)
 
     -- a place of the new stack: the new one, or an old one
-    which : (i : ℕ) → ((i ≡ s.pending) × (held (push r s) i ≡ r)) ⊎ ((i ≢ s.pending) × (held (push r s) i ≡ held s i))
-    which i = at_set s.stack s.pending r 0 i (omega (arith, h.stack_long))
+    which : (i : ℕ) → i < s.pending + 1 → ((i ≡ s.pending) × (held (push r s) i ≡ r)) ⊎ ((i < s.pending) × (held (push r s) i ≡ held s i))
+    which i k =
+        ⊎_elim (λ e. inl (e, rw e (get_or-set_same s.stack s.pending r 0 (omega (arith, h.stack_long)))))
+        (λ e. inr (e, get_or-set_other s.stack s.pending i r 0 (omega arith))) (below_suc {n = s.pending} (omega arith))
 
     put : Core d hi lo m (push r s)
     put = record {
       marks_long = omega (arith, h.marks_long, length-set s.marks r 2);
       stack_long = omega (arith, h.stack_long, length-set s.stack s.pending r);
-      inside = λ i k. ⊎_elim (λ e. omega arith) (λ e. omega (arith, h.inside i (omega arith))) (which i);
+      inside = λ i k. ⊎_elim (λ e. omega arith) (λ e. omega (arith, h.inside i e.0)) (which i k);
       two = λ i k.
           ⊎_elim (λ e. rw e.1 (get_or-set_same s.marks r 2 0 mark_in))
-          (λ e. rw e.1 (get_or-set_other s.marks r (held s i) 2 0 (apart i (omega arith)) ∙ h.two i (omega arith))) (which i);
+          (λ e. rw e.1 (get_or-set_other s.marks r (held s i) 2 0 (apart i e.0) ∙ h.two i e.0)) (which i k);
       once = λ i k a b e.
-          ⊎_elim (λ x. ⊎_elim (λ y. omega arith) (λ y. let z = apart k (omega arith) in omega arith) (which k))
-          (λ x. ⊎_elim (λ y. let z = apart i (omega arith) in omega arith) (λ y. h.once i k (omega arith) (omega arith) (omega arith)) (which k))
-          (which i);
+          ⊎_elim (λ x. ⊎_elim (λ y. omega arith) (λ y. let z = apart k y.0 in omega arith) (which k b))
+          (λ x. ⊎_elim (λ y. let z = apart i x.0 in omega arith) (λ y. h.once i k x.0 y.0 (omega arith)) (which k b)) (which i a);
       twos = omega (arith, h.twos, more);
       right = λ q k. right_set s.marks r 2 q mark_in (right_joined (le_refl 2) (omega arith) j) (λ z. h.right q (old q k z));
     }

@@ -15,7 +15,7 @@ use Rattle.rules.specs.Walk.{State, state, mark, has, count, push, pop, last, lo
 use Rattle.rules.specs.Joined.{Joined, Touch}
 use Rattle.rules.specs.Joined.Way.{here, on}
 use Rattle.rules.specs.declared.Size.{Size}
-use Rattle.rules.proofs.Bools.{by_test, is_true}
+use Rattle.rules.proofs.Bools.{is_true}
 use Rattle.rules.proofs.Fill.{length_filled}
 use Rattle.rules.proofs.Stores.{at_set}
 use Rattle.rules.proofs.Tests.{below_suc}
@@ -55,10 +55,11 @@ module _ (d : Size) (hi lo : ℕ → Bool) where
   -- a look at a pixel at or above low leaves it pending or finished
   look_seen : {s : State} → Core d hi lo (area d) s → {r : ℕ} → r < area d → T (lo r) → 2 ≤ mark (look r s) r
   unfolding look
-  look_seen {s} c {r} k t =
-      by_test (λ b. 2 ≤ mark (cond b (push r s) s) r) (has 1 s.marks r)
-      (λ e. omega (arith, get_or-set_same s.marks r 2 0 (omega (arith, c.marks_long))))
-      (λ e. let n = eqb-false (mark s r) 1 e in omega (arith, (c.right r k).low t))
+  look_seen {s} c {r} k t = go (has 1 s.marks r) refl
+    where
+      go : (b : Bool) → has 1 s.marks r ≡ b → 2 ≤ mark (cond b (push r s) s) r
+      go true e = omega (arith, get_or-set_same s.marks r 2 0 (omega (arith, c.marks_long)))
+      go false e = let n = eqb-false (mark s r) 1 e in omega (arith, (c.right r k).low t)
 
   -- ---- the nine looks around a pixel that is joined
 
@@ -127,18 +128,21 @@ module _ (d : Size) (hi lo : ℕ → Bool) where
 
     one_more : (i : ℕ) (s : State) → i < area d → Part i s → Part (suc i) (class (hi i) (lo i) i s)
     unfolding class
-    one_more i s l h =
-        let k : i < length s.marks = omega (arith, h.0.marks_long) in
-        let b = bits (lo i) in
-        by_test (λ c. Part (suc i) (cond c (push i s) (state (set s.marks i (bit (lo i))) s.stack s.pending))) (hi i)
-        (λ e.
-        let t = is_true e in
-        (core_strong h.0 l (record { seed = i; strong = t; way = here l (above i t) }), counted 3 s.marks i 2 k ∙ omega (arith, h.1)))
-        (λ e. (
-          core_weak h.0 l (bit (lo i)) (omega arith)
-              (record { small = omega arith; seen = λ z. absurd (omega arith); weak = b.1; low = b.2; high = λ z. absurd (subst T e z) }),
-          omega (arith, counted 3 s.marks i (bit (lo i)) k, ap bit (ne_eqb (bit (lo i)) 3 (omega arith)), h.1),
-        ))
+    one_more i s l h = go (hi i) refl
+      where
+        in_marks : i < length s.marks
+        in_marks = omega (arith, h.0.marks_long)
+
+        go : (b : Bool) → hi i ≡ b → Part (suc i) (cond b (push i s) (state (set s.marks i (bit (lo i))) s.stack s.pending))
+        go true e =
+            let t = is_true e in
+            (core_strong h.0 l (record { seed = i; strong = t; way = here l (above i t) }), counted 3 s.marks i 2 in_marks ∙ omega (arith, h.1))
+        go false e =
+            let b = bits (lo i) in (
+              core_weak h.0 l (bit (lo i)) (omega arith)
+                  (record { small = omega arith; seen = λ z. absurd (omega arith); weak = b.1; low = b.2; high = λ z. absurd (subst T e z) }),
+              omega (arith, counted 3 s.marks i (bit (lo i)) in_marks, ap bit (ne_eqb (bit (lo i)) 3 (omega arith)), h.1),
+            )
 
     all_classed : (s : State) → s.pending ≡ 0 → area d ≤ length s.marks → area d ≤ length s.stack → (i : ℕ) → i ≤ area d → Part i (classed hi lo i s)
     unfolding classed tally

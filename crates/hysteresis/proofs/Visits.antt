@@ -3,11 +3,10 @@ use Prim.Native.Nat.{ℕ, zero, suc, ◌+◌, ◌/◌, ◌%◌, ◌≤◌, ◌<�
 use native.Mathlib.Nat.{add-zero}
 use native.Mathlib.Omega.{arith}
 use mathlib.Core.Path.{◌≡◌, refl}
-use mathlib.Core.Bool.{cond}
+use mathlib.Core.Bool.{Bool, true, false, cond}
 use borrow.Author.Tests.{eqb-true}
 use Rattle.rules.specs.Walk.{State, mark, has, push, look, visit, looks, inside, place}
 use Rattle.rules.specs.declared.Size.{Size}
-use Rattle.rules.proofs.Bools.{by_test}
 use Rattle.hysteresis.specs.Around.{row}
 use Rattle.hysteresis.proofs.Places.{Within, within, inside_of, col_at, row_at}
 
@@ -17,7 +16,11 @@ visit_in s w = rw (inside_of w)
 
 pub visit_out : (d : Size) (nx ny : ℕ) (s : State) → (Within d nx ny → ⊥) → visit d nx ny s ≡ s
 unfolding visit
-visit_out d nx ny s h = by_test (λ b. cond b (look (place d nx ny) s) s ≡ s) (inside d nx ny) (λ e. absurd (h (within d nx ny e))) (λ e. refl)
+visit_out d nx ny s h = go (inside d nx ny) refl
+  where
+    go : (b : Bool) → inside d nx ny ≡ b → cond b (look (place d nx ny) s) s ≡ s
+    go true e = absurd (h (within d nx ny e))
+    go false e = refl
 
 -- three rows of three are the nine looks
 pub nine_looks : (d : Size) (q : ℕ) (s : State)
@@ -29,12 +32,19 @@ nine_looks d q s = simp add-zero
 module _ (d : Size) (P : State → Type 0) (Q : ℕ → Type 0) (grow : (s : State) → P s → (r : ℕ) → Q r → mark s r ≡ 1 → P (push r s)) where
   look_keeps : (r : ℕ) → Q r → (s : State) → P s → P (look r s)
   unfolding look
-  look_keeps r q s h = by_test (λ b. P (cond b (push r s) s)) (has 1 s.marks r) (λ e. grow s h r q (eqb-true (mark s r) 1 e)) (λ e. h)
+  look_keeps r q s h = go (has 1 s.marks r) refl
+    where
+      go : (b : Bool) → has 1 s.marks r ≡ b → P (cond b (push r s) s)
+      go true e = grow s h r q (eqb-true (mark s r) 1 e)
+      go false e = h
 
   pub visit_keeps : (nx ny : ℕ) → (Within d nx ny → Q (place d nx ny)) → (s : State) → P s → P (visit d nx ny s)
   unfolding visit
-  visit_keeps nx ny q s h =
-      by_test (λ b. P (cond b (look (place d nx ny) s) s)) (inside d nx ny) (λ e. look_keeps (place d nx ny) (q (within d nx ny e)) s h) (λ e. h)
+  visit_keeps nx ny q s h = go (inside d nx ny) refl
+    where
+      go : (b : Bool) → inside d nx ny ≡ b → P (cond b (look (place d nx ny) s) s)
+      go true e = look_keeps (place d nx ny) (q (within d nx ny e)) s h
+      go false e = h
 
   pub looks_keep : (q : ℕ) → ((k : ℕ) → k < 9 → Within d (col_at d q k) (row_at d q k) → Q (place d (col_at d q k) (row_at d q k)))
       → (s : State) → P s → (k : ℕ) → k ≤ 9 → P (looks d q k s)

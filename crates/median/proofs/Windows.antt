@@ -1,52 +1,29 @@
 -- The counts of a row's windows: a column more on the right, a column less on the left, and the median that they select. Assumes nothing.
 use mathlib.Core.Path.{◌≡◌, refl, sym, ap, ◌∙◌}
-use mathlib.Core.Bool.{Bool, true, false, cond}
+use mathlib.Core.Bool.{Bool, true}
 use mathlib.Core.List.{List}
 use Prim.Native.Nat.{ℕ, zero, suc, ◌+◌, ◌-◌, ◌*◌, ◌/◌, ◌%◌, ◌<◌, ◌≤◌}
 use native.Mathlib.Nat.{mul-le-mul, suc-mul}
 use native.Mathlib.Omega.{arith}
-use borrow.Author.Tests.{lt-ltb, ltb-true, ltb-false}
-use lib.Dec.{eqb, ltb}
-use lib.ListN.{length, get_or, take, replicate, length-replicate, get_or-eq_default}
-use Rattle.rules.specs.Limits.{max_area, max_window}
+use borrow.Author.Tests.{lt-ltb}
+use lib.Dec.{eqb}
+use lib.ListN.{length, get_or, take, replicate, length-replicate}
+use Rattle.rules.specs.Limits.{max_side, max_window}
 use Rattle.rules.specs.Picture.{tally, tabulate, filled}
 use Rattle.rules.specs.Border.{byte_sample, under}
 use Rattle.rules.specs.Median.{window_at, median_at}
 use Rattle.rules.specs.declared.Size.{Size}
 use Rattle.rules.specs.declared.BorderMode.{BorderMode}
 use Rattle.rules.proofs.Fill.{length_tabulate, get_d_tabulate, take_filled}
-use Rattle.rules.proofs.Grid.{row_in_lem}
+use Rattle.rules.proofs.Grid.{column_of_lem, row_of_lem}
 use Rattle.rules.proofs.Tallies.{tally_all, tally_eq}
 use Rattle.rules.proofs.Sorting.{fewer, selected}
 use Rattle.rules.proofs.Gradients.{sample_byte}
-use Rattle.median.specs.Counts.{row_from, column_from, row_start, column_start, column_at, column_of, in_columns, sum_of, equals, belows, counted_below, put_all, take_all}
+use Rattle.median.specs.Counts.{median_of, row_place, column_place, column_at, column_of, in_columns, sum_of, equals, belows, counted_below, put_all, take_all}
 use Rattle.median.specs.Counts.{Counts, Counted, Middle, Selected, Holds, Rows, About}
-use Rattle.refusals.specs.Rows.{Picture}
-use Rattle.border.specs.Reading.{placed, read_at}
-use Rattle.border.proofs.Reading.{read_is}
+use Rattle.border.proofs.Reading.{read_byte, read_is}
 use Rattle.median.proofs.Counting.{sum_cong, sum_more, sum_first, sum_equals, change_length, put_at, put_below, take_at, take_below, by_columns}
 use Rattle.median.proofs.Counting.{occurrences_tabulate, below_is}
-
--- ---- bytes by where they stand
-
-offset_byte : (d : Size) (pixels : List ℕ) (x y : ℕ) → get_or pixels (row_from d (length pixels) y + column_from d (length pixels) x) 0 ≡ read_at pixels d x y
-offset_byte d pixels x y = go (ltb y d.height) (ltb x d.width)
-  where
-    go : (b c : Bool) → get_or pixels (cond b (y * d.width) (length pixels) + cond c x (length pixels)) 0 ≡ cond c (cond b (get_or pixels (y * d.width + x) 0) 0) 0
-    go true true = refl
-    go false true = get_or-eq_default pixels 0 (omega arith)
-    go true false = get_or-eq_default pixels 0 (omega arith)
-    go false false = get_or-eq_default pixels 0 (omega arith)
-
--- none begins past the picture's end
-row_from_small : (d : Size) (pixels : List ℕ) → Picture d pixels → (row : ℕ) → row_from d (length pixels) row ≤ max_area
-row_from_small d pixels p row = go (ltb row d.height) refl
-  where
-    go : (b : Bool) → ltb row d.height ≡ b → cond b (row * d.width) (length pixels) ≤ max_area
-    go true e = omega (arith, row_in_lem row d.width d.height (ltb-true row d.height e), p.sides.small)
-    go false e = omega (arith, p.long, p.sides.small)
-
--- ---- sums
 
 sum_most : (g : ℕ → ℕ) (n b : ℕ) → ((i : ℕ) → g i ≤ b) → sum_of g n ≤ n * b
 unfolding sum_of
@@ -76,7 +53,7 @@ module _ {pixels : List ℕ} {d : Size} {mode : BorderMode} {rows : List ℕ} wh
   -- ---- the counts of n columns
 
   -- no value stands more often than there are samples
-  pub counts_of : {x n : ℕ} {l : List ℕ} → Rows d pixels rows → n ≤ length rows → Holds pixels d mode rows x n l → Counts l
+  pub counts_of : {x n : ℕ} {l : List ℕ} → Rows d pixels rows → n ≤ length rows → Holds pixels d mode rows x n l → Counts l max_side
   counts_of {x} {n} r h p =
       let k : n ≤ max_window = omega (arith, r.few) in
       let most : (v : ℕ) → in_columns pixels d mode rows x n v ≤ n * length rows = λ v. sum_most _ n (length rows) (λ i. tally_all _ (length rows)) in
@@ -84,16 +61,16 @@ module _ {pixels : List ℕ} {d : Size} {mode : BorderMode} {rows : List ℕ} wh
 
   module _ {x n : ℕ} {l : List ℕ} (byte : (i : ℕ) → get_or pixels i 0 < 256) (p : Holds pixels d mode rows x n l) where
     -- a column's samples are counted
-    column_in : (c j : ℕ) → column_at pixels rows c j < length l
-    column_in c j = rw p.count (byte (get_or rows j 0 + c))
+    column_in : (c j : ℕ) → column_at pixels d rows c j < length l
+    column_in c j = rw p.count (read_byte d pixels byte c (get_or rows j 0))
 
     -- one more column, at place c
-    pub put_holds : {c : ℕ} {o : List ℕ} → c ≡ column_start d (length pixels) (length rows) mode (x + n) → o ≡ put_all l (column_at pixels rows c) (length rows)
+    pub put_holds : {c : ℕ} {o : List ℕ} → c ≡ column_place d (length rows) mode (x + n) → o ≡ put_all l (column_at pixels d rows c) (length rows)
         → Holds pixels d mode rows x (n + 1) o
     put_holds {c} q e =
         let f = column_of pixels d mode rows in
         record {
-          count = ap length e ∙ change_length (column_at pixels rows c) l _ (length rows) ∙ p.count;
+          count = ap length e ∙ change_length (column_at pixels d rows c) l _ (length rows) ∙ p.count;
           each = λ v.
               rw (e, q)
               (omega (arith, p.each v, put_at (f (x + n)) l (column_in _) (length rows) v, sum_more (λ i. equals (f (x + i)) (length rows) v) n));
@@ -102,10 +79,10 @@ module _ {pixels : List ℕ} {d : Size} {mode : BorderMode} {rows : List ℕ} wh
   -- ---- from the window at column x to the next: its first column, at place `left`, out, and the one after its last, at place `right`, in
 
   module _ (r : Rows d pixels rows) (byte : (i : ℕ) → get_or pixels i 0 < 256) {x left right value below : ℕ} {l : List ℕ}
-      (p : Holds pixels d mode rows x (length rows) l) (ql : left ≡ column_start d (length pixels) (length rows) mode x)
-      (qr : right ≡ column_start d (length pixels) (length rows) mode (x + length rows)) (e : Middle l value below) where
+      (p : Holds pixels d mode rows x (length rows) l) (ql : left ≡ column_place d (length rows) mode x)
+      (qr : right ≡ column_place d (length rows) mode (x + length rows)) (e : Middle l value below) where
     -- the first column apart
-    first : (v : ℕ) → get_or l v 0 ≡ equals (column_at pixels rows left) (length rows) v + in_columns pixels d mode rows (x + 1) (length rows - 1) v
+    first : (v : ℕ) → get_or l v 0 ≡ equals (column_at pixels d rows left) (length rows) v + in_columns pixels d mode rows (x + 1) (length rows - 1) v
     first v =
         let g : ℕ → ℕ = λ t. equals (column_of pixels d mode rows t) (length rows) v in
         let z : length rows - 1 + 1 ≡ length rows = omega (arith, r.some) in
@@ -113,43 +90,43 @@ module _ {pixels : List ℕ} {d : Size} {mode : BorderMode} {rows : List ℕ} wh
         let s = sum_cong (λ i. g (x + (i + 1))) (λ i. g (x + 1 + i)) (length rows - 1) (λ i h. ap g (omega arith)) in
         rw ql (omega (arith, p.each v, rw z at (sum_first (λ i. g (x + i)) (length rows - 1)), ap g a))
 
-    first_each : (v : ℕ) → equals (column_at pixels rows left) (length rows) v ≤ get_or l v 0
+    first_each : (v : ℕ) → equals (column_at pixels d rows left) (length rows) v ≤ get_or l v 0
     first_each v = omega (arith, first v)
 
     -- the ones below a value go with their column
-    first_below : counted_below (take_all l (column_at pixels rows left) (length rows)) value + belows (column_at pixels rows left) (length rows) value
+    first_below : counted_below (take_all l (column_at pixels d rows left) (length rows)) value + belows (column_at pixels d rows left) (length rows) value
         ≡ counted_below l value
-    first_below = take_below (column_at pixels rows left) l (column_in byte p left) (length rows) value first_each
+    first_below = take_below (column_at pixels d rows left) l (column_in byte p left) (length rows) value first_each
 
-    pub left_counted : Counted l (column_at pixels rows left) (length rows) value below
+    pub left_counted : Counted l (column_at pixels d rows left) (length rows) value below
     left_counted = record { each = first_each; lower = omega (arith, first_below, e.lower) }
 
-    module _ {m : List ℕ} (h : m ≡ take_all l (column_at pixels rows left) (length rows)) where
+    module _ {m : List ℕ} (h : m ≡ take_all l (column_at pixels d rows left) (length rows)) where
       less : Holds pixels d mode rows (x + 1) (length rows - 1) m
       less =
           record {
-            count = ap length h ∙ change_length (column_at pixels rows left) l _ (length rows) ∙ p.count;
-            each = λ v. rw h (omega (arith, first v, take_at (column_at pixels rows left) l (column_in byte p left) (length rows) v));
+            count = ap length h ∙ change_length (column_at pixels d rows left) l _ (length rows) ∙ p.count;
+            each = λ v. rw h (omega (arith, first v, take_at (column_at pixels d rows left) l (column_in byte p left) (length rows) v));
           }
 
-      pub less-counts : Counts m
+      pub less-counts : Counts m max_side
       less-counts = counts_of r (omega arith) less
 
-      pub moved : {o : List ℕ} {n b : ℕ} → n ≡ below - belows (column_at pixels rows left) (length rows) value
-          → (o ≡ put_all m (column_at pixels rows right) (length rows)) × (b ≡ n + belows (column_at pixels rows right) (length rows) value)
+      pub moved : {o : List ℕ} {n b : ℕ} → n ≡ below - belows (column_at pixels d rows left) (length rows) value
+          → (o ≡ put_all m (column_at pixels d rows right) (length rows)) × (b ≡ n + belows (column_at pixels d rows right) (length rows) value)
           → Holds pixels d mode rows (x + 1) (length rows) o × Middle o value b
       moved f g =
           let z : length rows - 1 + 1 ≡ length rows = omega (arith, r.some) in
           let y : x + length rows ≡ x + 1 + (length rows - 1) = omega (arith, r.some) in
           let u = first_below in
-          let w = put_below (column_at pixels rows right) m (column_in byte less right) (length rows) value in
+          let w = put_below (column_at pixels d rows right) m (column_in byte less right) (length rows) value in
           let s = ap (λ (t : List ℕ). counted_below t value) h in
-          let k = put_holds byte less (qr ∙ ap (column_start d (length pixels) (length rows) mode) y) g.0 in
+          let k = put_holds byte less (qr ∙ ap (column_place d (length rows) mode) y) g.0 in
           (rw z at k, record { byte = e.byte; lower = rw g.0 (omega (arith, e.lower, g.1)) })
 
   -- ---- the median that the counts select
 
-  module _ (r : Rows d pixels rows) {x y : ℕ} {counts : List ℕ} (about : About d mode y pixels rows) (p : Holds pixels d mode rows x (length rows) counts) where
+  module _ (r : Rows d pixels rows) {x y : ℕ} {counts : List ℕ} (about : About d mode y rows) (p : Holds pixels d mode rows x (length rows) counts) where
     -- the window's samples, by columns and in row order
     abbrev sample : ℕ → ℕ → ℕ
     sample i j = byte_sample pixels d mode (under x (length rows) i) (under y (length rows) j)
@@ -161,8 +138,7 @@ module _ {pixels : List ℕ} {d : Size} {mode : BorderMode} {rows : List ℕ} wh
     area = length rows * length rows
 
     column_is : (i j : ℕ) → j < length rows → column_of pixels d mode rows (x + i) j ≡ sample i j
-    column_is i j h =
-        rw (about.each j h) (offset_byte d pixels _ _ ∙ read_is d pixels mode _ _ r.picture.sides r.wide (omega (arith, about.row)))
+    column_is i j h = rw (about.each j h) (read_is d pixels r.picture mode _ _ r.wide (omega (arith, about.row)))
 
     counted : (v : ℕ) → get_or counts v 0 ≡ equals samples area v
     counted v =
@@ -178,37 +154,27 @@ module _ {pixels : List ℕ} {d : Size} {mode : BorderMode} {rows : List ℕ} wh
         ∙ sum_equals samples area 256
         ∙ tally_full _ area (λ j. lt-ltb (samples j) 256 (omega (arith, small (j % length rows) (j / length rows))))
 
-    pub median_at_lem : {value below : ℕ} → Selected counts (area / 2) value below → value ≡ median_at d (length rows) mode pixels x y
+    -- as it stands at the pixel's index
+    pub median_at_lem : {value below : ℕ} → x < d.width → Selected counts (area / 2) value below
+        → value ≡ median_of d (length rows) mode pixels (y * d.width + x)
     unfolding median_at window_at
-    median_at_lem {value} s =
+    median_at_lem {value} l s =
         let w = tabulate area samples in
         let e : (m : ℕ) → counted_below counts m ≡ fewer m w = λ m. below_is w counts m (λ v h. counted v ∙ sym (occurrences_tabulate area samples v)) in
         let u = s.middle.lower in
         let a = e value in
         let b = e (value + 1) in
         let t = sum_more (λ v. get_or counts v 0) value in
-        sym (selected w value (area / 2) (omega (arith, s.from)) (omega (arith, s.to)))
+        rw (column_of_lem y l, row_of_lem y l) (sym (selected w value (area / 2) (omega (arith, s.from)) (omega (arith, s.to))))
 
--- ---- where a window's rows begin, lent as a part of what `start_rows` filled
+-- ---- the places of a window's rows, lent as a part of what `place_rows` filled
 
-module _ (d : Size) (pixels : List ℕ) (mode : BorderMode) (window y : ℕ) (l : List ℕ) {r : List ℕ}
-    (e : r ≡ filled window (row_start d (length pixels) window mode y) l) where
-  part_is : take (window - 0) r ≡ tabulate window (row_start d (length pixels) window mode y)
-  part_is = let z : window - 0 ≡ window = omega arith in rw z (take_filled window (row_start d (length pixels) window mode y) l r e)
+module _ (d : Size) (mode : BorderMode) (window y : ℕ) (l : List ℕ) {r : List ℕ} (e : r ≡ filled window (row_place d window mode y) l) where
+  part_is : take (window - 0) r ≡ tabulate window (row_place d window mode y)
+  part_is = let z : window - 0 ≡ window = omega arith in rw z (take_filled window (row_place d window mode y) l r e)
 
   pub part_count : length (take (window - 0) r) ≡ window
-  part_count = ap length part_is ∙ length_tabulate window (row_start d (length pixels) window mode y)
+  part_count = ap length part_is ∙ length_tabulate window (row_place d window mode y)
 
-  part_at : (j : ℕ) → j < window → get_or (take (window - 0) r) j 0 ≡ row_start d (length pixels) window mode y j
-  part_at j h = rw part_is (get_d_tabulate window (row_start d (length pixels) window mode y) 0 j h)
-
-  pub part_about : y < d.height → About d mode y pixels (take (window - 0) r)
-  part_about h = record { row = h; each = λ j k. rw part_count (part_at j (rw part_count at k)) }
-
-  -- none is past the picture's end
-  pub part_small : Picture d pixels → (j : ℕ) → get_or (take (window - 0) r) j 0 ≤ max_area
-  part_small p j = go (ltb j window) refl
-    where
-      go : (b : Bool) → ltb j window ≡ b → get_or (take (window - 0) r) j 0 ≤ max_area
-      go true q = omega (arith, part_at j (ltb-true j window q), row_from_small d pixels p (placed mode (under y window j) d.height))
-      go false q = let n = ltb-false j window q in omega (arith, get_or-eq_default (take (window - 0) r) 0 {n = j} (omega (arith, part_count)))
+  pub part_about : y < d.height → About d mode y (take (window - 0) r)
+  part_about h = record { row = h; each = λ j k. rw (part_count, part_is) (get_d_tabulate window (row_place d window mode y) 0 j (rw part_count at k)) }

@@ -1,38 +1,30 @@
--- The median's private functions: where the window's bytes stand, counts of 256 byte values, moved by columns of the window, and the value
--- that they select.
-use Rattle.std.specs.Prelude.{ℕ, zero, suc, ◌+◌, ◌-◌, ◌*◌, ◌/◌, ◌<◌, ◌≤◌, cond, ◌≡◌, List, ltb, eqb, length, get_or, set, pos, ◌-ℤ◌}
-use Rattle.rules.specs.Limits.{max_area, max_window}
-use Rattle.rules.specs.Picture.{tally}
+-- The median's private functions: counts of 256 byte values, moved by columns of the window, and the value that they select.
+use Rattle.std.specs.Prelude.{ℕ, zero, suc, ◌+◌, ◌-◌, ◌/◌, ◌<◌, ◌≤◌, ◌≡◌, List, ltb, eqb, length, get_or, set, pos, ◌-ℤ◌}
+use Rattle.rules.specs.Limits.{max_window}
+use Rattle.rules.specs.Picture.{tally, by_pixel}
 use Rattle.rules.specs.Border.{under}
+use Rattle.rules.specs.Median.{median_at}
 use Rattle.rules.specs.declared.Size.{Size}
 use Rattle.rules.specs.declared.BorderMode.{BorderMode}
-use Rattle.border.specs.Reading.{placed}
+use Rattle.border.specs.Reading.{placed, read_in}
 use Rattle.refusals.specs.Rows.{Picture}
 
--- ---- bytes by where they stand
+-- the median's picture, by index
+abbrev pub median_of : Size → ℕ → BorderMode → List ℕ → ℕ → ℕ
+median_of d k mode pixels = by_pixel d (median_at d k mode pixels)
 
--- where a row's bytes begin, and where a column lies in a row; past the picture's end, at `end`, where it is nowhere, so that a byte of it is 0
-abbrev pub row_from : Size → ℕ → ℕ → ℕ
-row_from d end row = cond (ltb row d.height) (row * d.width) end
+-- ---- samples by places
 
-abbrev pub column_from : Size → ℕ → ℕ → ℕ
-column_from d end column = cond (ltb column d.width) column end
+-- where row j of the window about row y is read, and column c, counted from the window's left-hand one at x
+abbrev pub row_place : Size → ℕ → BorderMode → ℕ → ℕ → ℕ
+row_place d k mode y j = placed mode (under y k j) d.height
 
--- of row j of the window about row y, and of column c, counted from the left-hand column of the window about column 0
-abbrev pub row_start : Size → ℕ → ℕ → BorderMode → ℕ → ℕ → ℕ
-row_start d end k mode y j = row_from d end (placed mode (under y k j) d.height)
+abbrev pub column_place : Size → ℕ → BorderMode → ℕ → ℕ
+column_place d k mode c = placed mode (pos c -ℤ pos (k / 2)) d.width
 
-abbrev pub column_start : Size → ℕ → ℕ → BorderMode → ℕ → ℕ
-column_start d end k mode c = column_from d end (placed mode (pos c -ℤ pos (k / 2)) d.width)
-
--- entry j of a column of the window, whose rows begin at `rows`
-abbrev pub column_at : List ℕ → List ℕ → ℕ → ℕ → ℕ
-column_at pixels rows x j = get_or pixels (get_or rows j 0 + x) 0
-
--- starts that can be added
-pub record Starts (rows : List ℕ) (x : ℕ) : Type 0 where
-  pub each : (j : ℕ) → get_or rows j 0 ≤ max_area
-  pub column : x ≤ max_area
+-- entry j of a column at place x
+abbrev pub column_at : List ℕ → Size → List ℕ → ℕ → ℕ → ℕ
+column_at pixels d rows x j = read_in pixels d x (get_or rows j 0)
 
 -- ---- counts
 
@@ -64,14 +56,10 @@ put_all = change_all (λ c. c + 1)
 abbrev pub take_all : List ℕ → (ℕ → ℕ) → ℕ → List ℕ
 take_all = change_all (λ c. c - 1)
 
--- more than a window ever has, with a column more
-abbrev pub most_counted : ℕ
-most_counted = 2 * (max_window * max_window)
-
--- 256 counts, none of them too large
-pub record Counts (counts : List ℕ) : Type 0 where
+-- 256 counts, each at most `most`
+pub record Counts (counts : List ℕ) (most : ℕ) : Type 0 where
   pub count : length counts ≡ 256
-  pub small : (v : ℕ) → get_or counts v 0 ≤ most_counted
+  pub small : (v : ℕ) → get_or counts v 0 ≤ most
 
 -- what a column that is counted out asks: it is counted in
 pub record Counted (counts : List ℕ) (f : ℕ → ℕ) (n value below : ℕ) : Type 0 where
@@ -92,7 +80,7 @@ pub record Selected (counts : List ℕ) (item value below : ℕ) : Type 0 where
 -- ---- a row's windows, column by column: k rows and k columns, where k is how many places `rows` has
 
 abbrev pub column_of : List ℕ → Size → BorderMode → List ℕ → ℕ → ℕ → ℕ
-column_of pixels d mode rows c = column_at pixels rows (column_start d (length pixels) (length rows) mode c)
+column_of pixels d mode rows c = column_at pixels d rows (column_place d (length rows) mode c)
 
 -- how often v stands in the n columns from column x
 abbrev pub in_columns : List ℕ → Size → BorderMode → List ℕ → ℕ → ℕ → ℕ → ℕ
@@ -103,15 +91,14 @@ pub record Holds (pixels : List ℕ) (d : Size) (mode : BorderMode) (rows : List
   pub count : length counts ≡ 256
   pub each : (v : ℕ) → get_or counts v 0 ≡ in_columns pixels d mode rows x n v
 
--- a picture with a pixel, and where a window's rows begin
+-- a picture with a pixel, and the places of a window's rows
 pub record Rows (d : Size) (pixels rows : List ℕ) : Type 0 where
   pub picture : Picture d pixels
   pub wide : 0 < d.width
   pub some : 0 < length rows
   pub few : length rows ≤ max_window
-  pub small : (j : ℕ) → get_or rows j 0 ≤ max_area
 
 -- which are those of the window about row y
-pub record About (d : Size) (mode : BorderMode) (y : ℕ) (pixels rows : List ℕ) : Type 0 where
+pub record About (d : Size) (mode : BorderMode) (y : ℕ) (rows : List ℕ) : Type 0 where
   pub row : y < d.height
-  pub each : (j : ℕ) → j < length rows → get_or rows j 0 ≡ row_start d (length pixels) (length rows) mode y j
+  pub each : (j : ℕ) → j < length rows → get_or rows j 0 ≡ row_place d (length rows) mode y j

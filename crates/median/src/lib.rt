@@ -1,80 +1,44 @@
 // The median of a square window, by counts of the 256 byte values that move along a row: one column out, one in.
 ghost use Rattle.std.specs.Prelude.{◌≡◌, ◌+◌, ◌-◌, ◌*◌, ◌/◌, ◌≤◌, ◌<◌, ltb, length};
-ghost use Rattle.rules.specs.Limits.{max_side, max_area, max_window};
+ghost use Rattle.rules.specs.Limits.{max_side, max_window};
 ghost use Rattle.rules.specs.Picture.{area, bit, filled};
-ghost use Rattle.rules.specs.Accepted.{Sides};
-ghost use Rattle.rules.specs.Median.{median_at, default_window};
-ghost use Rattle.rules.specs.Calls.{painted, median};
+ghost use Rattle.rules.specs.Median.{default_window};
+ghost use Rattle.rules.specs.Calls.{median};
+ghost use Rattle.border.specs.Lent.{written_row};
 ghost use Rattle.refusals.specs.Rows.{Picture};
-ghost use Rattle.median.specs.Counts.{row_from, row_start, column_start, column_at, belows, counted_below, put_all, take_all, most_counted};
-ghost use Rattle.median.specs.Counts.{Starts, Counts, Counted, Middle, Selected, Holds, Rows, About};
+ghost use Rattle.median.specs.Counts.{median_of, row_place, column_place, column_at, belows, counted_below, put_all, take_all, Counts, Counted, Middle, Selected, Holds, Rows, About};
 
 use border::coord::place;
-use border::picture::byte_at;
+use border::picture::read;
 use refusals::filter::of_median;
 use rules::{ACCEPTED, BorderMode, MAX_WINDOW, Size};
 
-// ---- Where the window's bytes stand.
+// ---- Where the window's rows and columns are read.
 
-// Where row `row` of a picture begins; `end` where it is nowhere.
-fn row_from(size: Size, end: usize, row: usize) -> usize
-    requires { area size ≤ max_area }
-    ensures { result ≡ row_from size end row }
-{
-    if row < size.height {
-        return row * size.width;
-    }
-    end
-}
-
-// Where each row of the window about row y begins.
-fn start_rows(
-    size: Size,
-    border: BorderMode,
-    window: usize,
-    y: usize,
-    end: usize,
-    rows: &mut [usize],
-)
-    requires { Sides size
-        × (y < size.height)
-        × (window ≤ max_window)
-        × (window ≤ length rows.old) }
-    ensures { rows.new ≡ filled window (row_start size end window border y) rows.old }
+// Where each row of the window about row y is read.
+fn place_rows(size: Size, border: BorderMode, window: usize, y: usize, rows: &mut [usize])
+    requires { (y < size.height) × (size.height ≤ max_side) × (window ≤ max_window) × (window ≤ length rows.old) }
+    ensures { rows.new ≡ filled window (row_place size window border y) rows.old }
 {
     let mut j = 0;
     while j < window {
-        let row = place((y + j) as u32, (window / 2) as u32, size.height, border);
-        rows[j] = row_from(size, end, row);
+        rows[j] = place((y + j) as u32, (window / 2) as u32, size.height, border);
         j += 1;
     }
 }
 
-// Where column c lies in a row, counted from the left-hand column of the window about column 0. The border is asked only where it is outside.
-fn start_column(size: Size, border: BorderMode, window: usize, c: usize, end: usize) -> usize
-    requires { (size.width ≤ max_side)
-        × (c ≤ max_side + max_window)
-        × (window ≤ max_window)
-        × (end ≤ max_area) }
-    ensures { (result ≡ column_start size end window border c) × (result ≤ max_area) }
+// Where column c is read, counted from the left-hand column of the window about column 0.
+fn place_column(size: Size, border: BorderMode, window: usize, c: usize) -> usize
+    requires { (c < 2 * max_side) × (window ≤ max_window) }
+    ensures { result ≡ column_place size window border c }
 {
-    let half = window / 2;
-    if half <= c {
-        if c - half < size.width {
-            return c - half;
-        }
-    }
-    let x = place(c as u32, half as u32, size.width, border);
-    if x < size.width {
-        return x;
-    }
-    end
+    place(c as u32, (window / 2) as u32, size.width, border)
 }
 
 // ---- The counts.
 
 fn one_more(n: usize, b: usize, value: usize) -> usize
-    requires { n ≤ most_counted }
+    requires { n ≤ max_side }
     ensures { result ≡ n + bit (ltb b value) }
 {
     if b < value { n + 1 } else { n }
@@ -90,23 +54,23 @@ fn one_less(n: usize, b: usize, value: usize) -> usize
 // A column in. `below` counted bytes were below `value`; what returns are now.
 fn put_column(
     pixels: &[u8],
+    size: Size,
     rows: &[usize],
     x: usize,
     value: usize,
     below: usize,
     counts: &mut [u16],
 ) -> usize
-    requires { Counts counts.old
-        × Starts rows.now x
+    requires { Counts counts.old max_side
         × (length rows.now ≤ max_window)
-        × (below + max_window ≤ most_counted) }
-    ensures { (counts.new ≡ put_all counts.old (column_at pixels.now rows.now x) (length rows.now))
-        × (result ≡ below + belows (column_at pixels.now rows.now x) (length rows.now) value) }
+        × (below + max_window ≤ max_side) }
+    ensures { (counts.new ≡ put_all counts.old (column_at pixels.now size rows.now x) (length rows.now))
+        × (result ≡ below + belows (column_at pixels.now size rows.now x) (length rows.now) value) }
 {
     let mut n = below;
     let mut j = 0;
     while j < rows.len() {
-        let b = byte_at(pixels, rows[j] + x) as usize;
+        let b = read(pixels, size, x, rows[j]) as usize;
         counts[b] = counts[b] + 1;
         n = one_more(n, b, value);
         j += 1;
@@ -117,22 +81,22 @@ fn put_column(
 // A column out.
 fn take_column(
     pixels: &[u8],
+    size: Size,
     rows: &[usize],
     x: usize,
     value: usize,
     below: usize,
     counts: &mut [u16],
 ) -> usize
-    requires { Counts counts.old
-        × Starts rows.now x
-        × Counted counts.old (column_at pixels.now rows.now x) (length rows.now) value below }
-    ensures { (counts.new ≡ take_all counts.old (column_at pixels.now rows.now x) (length rows.now))
-        × (result ≡ below - belows (column_at pixels.now rows.now x) (length rows.now) value) }
+    requires { Counts counts.old max_side
+        × Counted counts.old (column_at pixels.now size rows.now x) (length rows.now) value below }
+    ensures { (counts.new ≡ take_all counts.old (column_at pixels.now size rows.now x) (length rows.now))
+        × (result ≡ below - belows (column_at pixels.now size rows.now x) (length rows.now) value) }
 {
     let mut n = below;
     let mut j = 0;
     while j < rows.len() {
-        let b = byte_at(pixels, rows[j] + x) as usize;
+        let b = read(pixels, size, x, rows[j]) as usize;
         counts[b] = counts[b] - 1;
         n = one_less(n, b, value);
         j += 1;
@@ -149,10 +113,10 @@ struct Found {
 
 // The value of item `item` of the counted bytes in order, sought from any value on: down, then up.
 fn select(counts: &[u16], item: usize, value: usize, below: usize) -> Found
-    requires { Counts counts.now
+    requires { Counts counts.now max_side
         × Middle counts.now value below
         × (item < counted_below counts.now 256)
-        × (item ≤ most_counted) }
+        × (item ≤ max_side) }
     ensures { Selected counts.now item result.value result.below }
 {
     let mut v = value;
@@ -176,8 +140,8 @@ fn first_window(pixels: &[u8], size: Size, border: BorderMode, rows: &[usize], c
 {
     let mut c = 0;
     while c < rows.len() {
-        let x = start_column(size, border, rows.len(), c, pixels.len());
-        put_column(pixels, rows, x, 0, 0, counts);
+        let x = place_column(size, border, rows.len(), c);
+        put_column(pixels, size, rows, x, 0, 0, counts);
         c += 1;
     }
 }
@@ -202,30 +166,31 @@ fn move_window(
 {
     let value = found.value;
     let k = rows.len();
-    let left = start_column(size, border, k, x, pixels.len());
-    let right = start_column(size, border, k, x + k, pixels.len());
-    let n = take_column(pixels, rows, left, value, found.below, counts);
-    put_column(pixels, rows, right, value, n, counts)
+    let left = place_column(size, border, k, x);
+    let right = place_column(size, border, k, x + k);
+    let n = take_column(pixels, size, rows, left, value, found.below, counts);
+    put_column(pixels, size, rows, right, value, n, counts)
 }
 
-// The medians of row y, whose window's rows begin at `rows`.
+// The medians of row y, whose window's rows are read at the places `rows`.
 fn slide(pixels: &[u8], size: Size, border: BorderMode, rows: &[usize], y: usize, out: &mut [u8])
     requires { Rows size pixels.now rows.now
-        × About size border y pixels.now rows.now
-        × (length out.old ≡ size.width) }
+        × About size border y rows.now
+        × (area size ≤ length out.old) }
     ensures { out.new
-        ≡ filled size.width (λ x. median_at size (length rows.now) border pixels.now x y) out.old }
+        ≡ written_row size y (median_of size (length rows.now) border pixels.now) out.old }
 {
     let mut counts = [0u16; 256];
     first_window(pixels, size, border, rows, &mut counts);
     let item = rows.len() * rows.len() / 2;
+    let a = y * size.width;
     let mut value = 0;
     let mut below = 0;
     let mut x = 0;
     while x < size.width {
         let found = select(&counts, item, value, below);
         value = found.value;
-        out[x] = value as u8;
+        out[a + x] = value as u8;
         below = move_window(pixels, size, border, rows, x, found, &mut counts);
         x += 1;
     }
@@ -244,11 +209,11 @@ fn median_row(
         × (y < size.height)
         × (0 < window)
         × (window ≤ max_window)
-        × (length out.old ≡ size.width) }
-    ensures { out.new ≡ filled size.width (λ x. median_at size window border pixels.now x y) out.old }
+        × (area size ≤ length out.old) }
+    ensures { out.new ≡ written_row size y (median_of size window border pixels.now) out.old }
 {
     let mut rows = [0usize; MAX_WINDOW];
-    start_rows(size, border, window, y, pixels.len(), &mut rows);
+    place_rows(size, border, window, y, &mut rows);
     slide(pixels, size, border, &rows[0..window], y, out);
 }
 
@@ -257,17 +222,14 @@ fn median_rows(pixels: &[u8], size: Size, border: BorderMode, window: usize, out
         × (0 < window)
         × (window ≤ max_window)
         × (area size ≤ length out.old) }
-    ensures { out.new ≡ painted size (median_at size window border pixels.now) out.old }
+    ensures { out.new ≡ filled (area size) (median_of size window border pixels.now) out.old }
 {
     if size.width == 0 {
         return;
     }
     let mut y = 0;
-    let mut start = 0;
     while y < size.height {
-        let end = start + size.width;
-        median_row(pixels, size, border, window, y, &mut out[start..end]);
-        start = end;
+        median_row(pixels, size, border, window, y, out);
         y += 1;
     }
 }

@@ -4,11 +4,6 @@ use mathlib.Core.Bool.{Bool, true, false, ◌&&◌, ◌||◌}
 use mathlib.Core.Logic.{◌⊎◌, inl, inr}
 use lib.Dec.{T}
 
--- what holds whichever way a test comes out
-pub by_test : (P : Bool → Type 0) (b : Bool) → (b ≡ true → P true) → (b ≡ false → P false) → P b
-by_test P true f g = f refl
-by_test P false f g = g refl
-
 pub true_is : (b : Bool) → T b → b ≡ true
 true_is true t = refl
 true_is false t = absurd t

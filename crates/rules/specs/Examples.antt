@@ -188,7 +188,7 @@ borders =
     ∷ ex (places Mirror 4 (negsuc 0) ++ (places Mirror 4 (negsuc 3) ++ (places Mirror 4 (negsuc 5) ++ places Mirror 4 (negsuc 6)))) (0 ∷ 1 ∷ 0 ∷ 2 ∷ 0 ∷ 0 ∷ 0 ∷ 1 ∷ [])
     ∷ ex (places Mirror 4 (pos 3) ++ (places Mirror 4 (pos 4) ++ (places Mirror 4 (pos 6) ++ places Mirror 4 (pos 7)))) (0 ∷ 3 ∷ 0 ∷ 2 ∷ 0 ∷ 0 ∷ 0 ∷ 1 ∷ [])
     ∷ ex (places Mirror 2 (negsuc 0) ++ (places Mirror 2 (pos 2) ++ places Mirror 1 (negsuc 0))) (0 ∷ 1 ∷ 0 ∷ 0 ∷ 0 ∷ 0 ∷ [])
-    ∷ ex (places Clamp 0 (pos 0) ++ (places Clamp 2048 (pos 2048) ++ places Clamp 2049 (pos 0))) (1 ∷ 0 ∷ 2047 ∷ 1 ∷ [])
+    ∷ ex (places Clamp 0 (pos 0) ++ (places Clamp 640 (pos 640) ++ places Clamp 641 (pos 0))) (1 ∷ 0 ∷ 639 ∷ 1 ∷ [])
     ∷ ex (places (mode_of 0) 3 (pos 3) ++ (places (mode_of 1) 3 (pos 3) ++ (places (mode_of 2) 3 (pos 3) ++ places (mode_of 3) 3 (pos 3)))) (0 ∷ 0 ∷ 2 ∷ 0 ∷ 1 ∷ 0 ∷ 1 ∷ [])
     ∷ []
 
@@ -267,7 +267,7 @@ filters =
     ∷ ex (shown_blur (apply_separable_kernel (sides 1 1) (tapped 1 1) Zero (9 ∷ []) (wholes (1 ∷ [])) (wholes (1 ∷ [])) (from_f 307 1) [])) (7 ∷ 0x4399_8000 ∷ [])
     ∷ ex (shown_blur (gaussian_blur (sides 1 1) Zero (9 ∷ []) [] (from_f 307 1) (from 201 2))) (3 ∷ 0x4399_8000 ∷ 201 ∷ 202 ∷ [])
     ∷ ex (shown_blur (box_blur (sides 1 1) Zero [] (from_f 307 1) (from 201 2))) (2 ∷ 0x4399_8000 ∷ 201 ∷ 202 ∷ [])
-    ∷ ex (shown (sharpen (sides 2049 0) Zero [] (from 201 2))) (1 ∷ 201 ∷ 202 ∷ [])
+    ∷ ex (shown (sharpen (sides 641 0) Zero [] (from 201 2))) (1 ∷ 201 ∷ 202 ∷ [])
     ∷ ex (shown (median (sides 1 1) 2 Zero (9 ∷ []) (from 201 2))) (3 ∷ 201 ∷ 202 ∷ [])
     ∷ []
 
@@ -427,7 +427,7 @@ refused_by row low high = applies (row (thresholds low high))
 
 abbrev tests : List Example
 tests =
-    ex (map applies (side_row (sides 2048 2048) ∷ side_row (sides 2049 0) ∷ side_row (sides 0 2049) ∷ one_side_row 0 ∷ one_side_row 1 ∷ one_side_row 2048 ∷ one_side_row 2049 ∷ []))
+    ex (map applies (side_row (sides 640 640) ∷ side_row (sides 641 0) ∷ side_row (sides 0 641) ∷ one_side_row 0 ∷ one_side_row 1 ∷ one_side_row 640 ∷ one_side_row 641 ∷ []))
     (0 ∷ 1 ∷ 1 ∷ 1 ∷ 0 ∷ 0 ∷ 1 ∷ [])
     ∷ ex (map (λ n. applies (count_row max_taps n)) (0 ∷ 1 ∷ 2 ∷ 62 ∷ 63 ∷ 65 ∷ [])) (1 ∷ 0 ∷ 1 ∷ 1 ∷ 0 ∷ 1 ∷ [])
     ∷ ex (map (λ n. applies (count_row max_kernel n)) (1 ∷ 14 ∷ 15 ∷ 17 ∷ [])) (0 ∷ 1 ∷ 0 ∷ 1 ∷ [])
@@ -467,10 +467,9 @@ in_order numbers_of =
     let n = length numbers_of in
     numbers_of ++ (flat (tabulate n (λ k. tabulate n (λ j. bit (eqb j k)))) ++ numbers_of)
 
--- the subjects: a side over the limit, an input one too long, a buffer one too short, an even count, one weight too many, a NaN; of a
--- height, so that a buffer can be too short as well
+-- the subjects: a side over the limit, an input one too long, a buffer one too short, an even count, one weight too many, a NaN
 abbrev sized : ℕ → Bool → Size
-sized height wrong = cond wrong (sides 2049 height) (sides 1 1)
+sized height wrong = cond wrong (sides 641 height) (sides 1 1)
 
 abbrev input {ℓ} : {A : Type ℓ} → A → Size → Bool → List A
 input z d wrong = tabulate (area d + bit wrong) (λ i. z)
@@ -540,12 +539,12 @@ module _ (w : ℕ → Bool) where
 
   abbrev slice_table : List Rule
   slice_table =
-      let d = sized (bit (w 1)) (w 0) in
+      let d = sized 1 (w 0) in
       slice_rows d (cond (w 3) 0 1) (state (marked d (w 1) (w 4)) (room 0 d (w 2)) 0)
 
   abbrev map_table : List Rule
   map_table =
-      let d = sized (bit (w 1)) (w 0) in
+      let d = sized 1 (w 0) in
       map_rows d (state (marked d (w 1) (w 4)) (room 0 d (w 2)) (bit (w 5))) (room 0 d (w 3))
 
   abbrev run_table : List Rule

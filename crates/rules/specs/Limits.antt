@@ -1,9 +1,9 @@
 -- The limits, each named once (01.Take.5, 01.Frame.3). The code's own constants are in src/.
 use Rattle.std.specs.Prelude.{ℕ, ◌*◌}
 
--- each side of a picture (02.4.2)
+-- each side of a picture
 abbrev pub max_side : ℕ
-max_side = 2048
+max_side = 640
 
 -- the pixels of the largest picture: large enough for a count of pixels, and for a place of one
 abbrev pub max_area : ℕ

@@ -27,7 +27,7 @@ first (r ∷ rs) = cond r.applies r.number (first rs)
 
 -- ---- the rows
 
--- 1: a side is over 2,048 (02.4.3); for resolving one coordinate, also a side of 0
+-- 1: a side is over 640; for resolving one coordinate, also a side of 0
 abbrev pub side_row : Size → Rule
 side_row d = rule 1 (ltb max_side d.width || ltb max_side d.height)
 

@@ -88,8 +88,8 @@ pub struct Counted {
     pub count: usize,
 }
 
-// The limits (01.Take.5, 01.Frame.3; a side's is 02.4.2's).
-pub const MAX_SIDE: usize = 2048;
+// The limits (01.Take.5, 01.Frame.3).
+pub const MAX_SIDE: usize = 640;
 
 pub const MAX_TAPS: usize = 63;
 

@@ -1,6 +1,6 @@
 //! A request to one of the calls, honest to begin with, and what document 01's table says to it.
 
-use crate::model::{self, Table, MAX_SIDE};
+use crate::model::{self, Table};
 use crate::numbers;
 use crate::random::Random;
 use crate::vendor;
@@ -213,7 +213,7 @@ impl Asked {
 /// Mostly small sides, now and then the limit or none.
 fn honest_sides(call: Call, random: &mut Random) -> (usize, usize) {
     if random.once_in(12) {
-        let limits = [(MAX_SIDE, 1), (1, MAX_SIDE), (MAX_SIDE, 2), (MAX_SIDE, 0), (0, MAX_SIDE), (0, 0)];
+        let limits = [(640, 1), (1, 640), (640, 2), (640, 0), (0, 640), (0, 0)];
         let sides = random.pick(&limits);
         return if call == Call::Resolve { (sides.0.max(1), 1) } else { sides };
     }

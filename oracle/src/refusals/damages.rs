@@ -1,6 +1,5 @@
 //! What can be wrong with a request, or just barely right: each damage is one change at a boundary of document 01's table.
 
-use crate::model::MAX_SIDE;
 use crate::random::Random;
 use crate::vendor;
 
@@ -12,10 +11,10 @@ pub const DAMAGES: [(&str, Damage); 87] = [
     ("border 3", |a, _| a.border = 3),
     ("border 4 to 254", |a, r| a.border = r.between(4, 254) as u8),
     ("border 255", |a, _| a.border = 255),
-    ("width one over the limit", |a, _| a.sides.0 = MAX_SIDE + 1),
-    ("height one over the limit", |a, _| a.sides.1 = MAX_SIDE + 1),
-    ("width at the limit", |a, _| a.sides.0 = MAX_SIDE),
-    ("height at the limit", |a, _| a.sides.1 = MAX_SIDE),
+    ("width 641", |a, _| a.sides.0 = 641),
+    ("height 641", |a, _| a.sides.1 = 641),
+    ("width 640", |a, _| a.sides.0 = 640),
+    ("height 640", |a, _| a.sides.1 = 640),
     ("width 0", |a, _| a.sides.0 = 0),
     ("height 0", |a, _| a.sides.1 = 0),
     ("width greatest", |a, _| a.sides.0 = usize::MAX),

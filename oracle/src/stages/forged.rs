@@ -4,7 +4,7 @@
 use crate::lent::Lent;
 use crate::model::{self, Table};
 use crate::ours::{self, Walk};
-use crate::pictures::{self, list};
+use crate::pictures::list;
 use crate::random::Random;
 use crate::runner::{Case, Stage};
 
@@ -32,13 +32,11 @@ impl Stage for Forged {
     }
 
     fn case(&self, index: usize, random: &mut Random) -> State {
-        let hundredth = index.is_multiple_of(100);
-        let (width, height) = if hundredth { pictures::shape(index / 100, random) } else { (random.below(6), random.below(6)) };
+        let most = if index.is_multiple_of(100) { 60 } else { 6 };
+        let (width, height) = (random.below(most), random.below(most));
         let n = width * height;
         let weak_in = 1 + random.below(4);
-        // So rare that most states have none.
-        let spoilt_in = 300.max(12 * n);
-        let marks: Vec<u8> = (0..n + random.below(4)).map(|_| mark(weak_in, spoilt_in, random)).collect();
+        let marks: Vec<u8> = (0..n + random.below(4)).map(|_| mark(weak_in, random)).collect();
         let wild = random.once_in(12);
         let stack = (0..n + random.below(4)).map(|_| index_for(n, wild, random)).collect();
         let weak = marks[..n].iter().filter(|&&m| m == 1).count();
@@ -54,9 +52,8 @@ impl Stage for Forged {
     }
 }
 
-/// A mark, once in `spoilt_in` times one that there is not, and else once in `weak_in` times 1.
-fn mark(weak_in: usize, spoilt_in: usize, random: &mut Random) -> u8 {
-    if random.once_in(spoilt_in) {
+fn mark(weak_in: usize, random: &mut Random) -> u8 {
+    if random.once_in(300) {
         return random.pick(&[4, 5, 128, 255]);
     }
     if random.once_in(weak_in) { 1 } else { random.pick(&[0, 2, 3]) }

@@ -1,7 +1,6 @@
 //! gradient_magnitude beside the loop lifted from canny.rs, floats by bits: every pair of gradients within 1020, then random shapes.
 
 use crate::lent::Lent;
-use crate::model::MAX_SIDE;
 use crate::numbers::{self, first_float};
 use crate::ours;
 use crate::pictures::{self, list};
@@ -25,9 +24,6 @@ pub struct Pairs {
 /// Values of a component, and a shape with as many entries.
 const VALUES: usize = 2041;
 const ROW: (usize, usize) = (157, 13);
-
-/// The longest list whose halves are no longer than a side may be.
-const TWO_SIDES: usize = 2 * MAX_SIDE;
 
 impl Stage for Magnitude {
     type Case = Pairs;
@@ -83,7 +79,8 @@ impl Case for Pairs {
         };
         match n {
             0 | 1 => Vec::new(),
-            2..=TWO_SIDES => vec![part(0, n / 2), part(n / 2, n)],
+            2..=1280 => vec![part(0, n / 2), part(n / 2, n)],
+            // A half would be longer than a side may be.
             _ => (0..n).map(|i| part(i, i + 1)).collect(),
         }
     }

@@ -1,8 +1,8 @@
-//! resolve_coord: each side from 1 to the limit with the coordinates around it, and random ones of all 64 bits.
+//! resolve_coord: each side from 1 to 640 with the coordinates around it, and random ones of all 64 bits.
 
-use crate::model::MAX_SIDE;
 use crate::numbers::BORDERS;
 use crate::ours;
+use crate::pictures::MAX_SIDE;
 use crate::random::Random;
 use crate::runner::{Case, Stage};
 use crate::vendor;

@@ -1,6 +1,5 @@
 -- `lines_of` is safe and ends: each line is read past. Assumes nothing.
 use borrow.Author.Rules.{rules}
-use native.Mathlib.Omega.{arith}
 use Prim.Native.Nat.{◌-◌}
 use lib.ListN.{length}
 use Rattle.examples_run.proofs.lines_of.Statement.{statement}
@@ -12,10 +11,8 @@ invariant-loop text at₀ at = Unit
 abbrev decreases-loop : tie.decreases-loop
 decreases-loop text at₀ at = length text - at
 
-loop-less : tie.Need-loop-smaller invariant-loop decreases-loop
-loop-less c = omega (arith, c.before.next.ensures c.before.before.before.loop-test.true)
-
 pub lines-of-spec : {M : Type 1} → statement M
 lines-of-spec =
     tie.close
-    (tie.spec invariant-loop decreases-loop (λ c. tt) (λ c κs. search rules) (λ c κs. search rules) loop-less (λ c. tt) (λ c. search rules))
+    (tie.spec invariant-loop decreases-loop (λ c. tt) (λ c κs. search rules) (λ c. search rules) (λ c. search rules) (λ c. search rules)
+    (λ c. search rules) (λ c. search rules) (λ c κs. search rules) (λ c. search rules) (λ c. tt) (λ c. search rules))

@@ -9,32 +9,23 @@ use native.Mathlib.Omega.{arith}
 use Rattle.frame.proofs.print_file.Statement.{statement}
 use Rattle.frame.proofs.print_file.Tie as tie
 
--- ---- the moments: where it began, and past the test of the layout, from after the run
-
-abbrev begun : tie.Else1 → tie.Start
-begun c = c.before.before.before.before
-
-abbrev passed : tie.After-run-file → tie.Else1
-passed c = c.before.before.before.before
-
--- the layout is kept
-keeps : (c : tie.Else1) → breach (begun c).args.file.now ≡ false
-keeps c = sym c.before.breach.ensures ∙ c.if1.false
-
-granted : (c : tie.Else1) → Laid (begun c).args.file.now
-granted c = laid _ (keeps c)
-
 returns : tie.Need-returns
 returns c =
-    let t = c.before.before.before.before in
-    written _ _ _ c.before.before.Put-refused.ensures (breached _ (sym t.before.breach.ensures ∙ t.if1.true))
+    let b = c.before.before.before.before.before in
+    written _ _ _ c.before.before.Put-refused.ensures (breached _ (sym b.breach.ensures ∙ c.before.before.before.before.if1.true))
+
+-- the layout is kept
+keeps : (c : tie.Else1) → breach c.before.before.before.before.args.file.now ≡ false
+keeps c = sym c.before.breach.ensures ∙ c.if1.false
+
+granted : (c : tie.Else1) → Laid c.before.before.before.before.args.file.now
+granted c = laid _ (keeps c)
 
 returns-2 : tie.Need-returns-2
 returns-2 c =
-    let t = c.before.before.before.before in
-    let w = t.before in
+    let w = c.before.before.before.before.before in
     written _ _ _ c.before.before.put-refused2.ensures
-    (kept _ (keeps w.before) ∙ many_taps _ (granted w.before) (rw w.wide.ensures.0 at t.if2.true))
+    (kept _ (keeps w.before) ∙ many_taps _ (granted w.before) (rw w.wide.ensures.0 at c.before.before.before.before.if2.true))
 
 run-file-requires : tie.Need-run-file-requires
 run-file-requires c κs =
@@ -43,18 +34,16 @@ run-file-requires c κs =
 
 returns-3 : tie.Need-returns-3
 returns-3 c =
-    let t = c.before.before.before.before in
-    let r = t.before.before in
-    let e = passed r in
+    let r = c.before.before.before.before.before.before in
+    let e = r.before.before.before.before in
     written _ _ _ c.before.before.put-refused3.ensures
-    (kept _ (keeps e) ∙ run_refused _ _ (granted e).small r.run-file.ensures t.if3.true)
+    (kept _ (keeps e) ∙ run_refused _ _ (granted e).small r.run-file.ensures c.before.before.before.before.if3.true)
 
 put-edges-requires : tie.Need-put-edges-requires
 put-edges-requires c κs =
-    let z = c.before.before in
-    let r = z.before.before.before in
-    let l = granted (passed r) in
-    rw z.size_of.ensures
+    let r = c.before.before.before.before.before in
+    let l = granted r.before.before.before.before in
+    rw c.before.before.size_of.ensures
     (record {
       small = small_run _ _ l.small r.run-file.ensures l;
       whole = omega (arith, l.small, r.run-file.auto.1.1.0);
@@ -63,16 +52,15 @@ put-edges-requires c κs =
 
 returns-4 : tie.Need-returns-4
 returns-4 c =
-    let p = c.before.before in
-    let z = p.before.before.before in
+    let z = c.before.before.before.before.before in
     let r = z.before.before.before in
-    let e = passed r in
-    written _ _ _ (rw z.size_of.ensures at p.put-edges.ensures)
+    let e = r.before.before.before.before in
+    written _ _ _ (rw z.size_of.ensures at c.before.before.put-edges.ensures)
     (kept _ (keeps e) ∙ run_accepted _ _ (granted e).small r.run-file.ensures z.before.if3.false)
 
 pub print-file-spec : {M : Type 1} → statement M
 print-file-spec =
     tie.close
-    (tie.spec (λ c κs. search rules) (λ c κs. search rules) (λ c. search rules) returns (λ c κs. omega (arith, (granted c).header))
-    (λ c κs. search rules) (λ c. search rules) returns-2 (λ c. search rules) run-file-requires (λ c κs. search rules) (λ c. search rules) returns-3
-    (λ c κs. (granted (passed c.before.before)).header) (λ c. search rules) put-edges-requires (λ c. search rules) returns-4)
+    (tie.spec (λ c κs. search rules) (λ c κs. search rules) (λ c. search rules) returns (λ c κs. omega (arith, (granted c).header)) (λ c κs. search rules)
+    (λ c. search rules) returns-2 (λ c. search rules) run-file-requires (λ c κs. search rules) (λ c. search rules) returns-3
+    (λ c κs. (granted c.before.before.before.before.before.before).header) (λ c. search rules) put-edges-requires (λ c. search rules) returns-4)

@@ -20,8 +20,7 @@ returns-2 : tie.Need-returns-2
 unfolding printed
 returns-2 c =
     let p = c.before.before in
-    let q = p.before.before.before in
-    let a = q.before.before.before.args in
+    let a = p.before.before.before.before.before.before.args in
     let e : a.read - 0 ≡ a.read = omega arith in
     rw e at p.print-file2.ensures
 

@@ -8,6 +8,10 @@ use Rattle.hysteresis.proofs.Numbers.{slice_fit}
 use Rattle.hysteresis.proofs.slice.Statement.{statement}
 use Rattle.hysteresis.proofs.slice.Tie as tie
 
+returns : tie.Need-returns
+unfolding Calls.slice after_slice slice_takes
+returns c = rw (← c.before.of-slice.ensures, ne_eqb _ _ c.if1.true)
+
 take-until-requires : tie.Need-take-until-requires
 take-until-requires c κs =
     let e = c.before.before in
@@ -21,8 +25,7 @@ returns-2 c =
     rw (← e.before.of-slice.ensures, e.if1.false, ← r.take-until.ensures.0, r.take-until.ensures.1)
 
 pub slice-spec : {M : Type 1} → statement M
-unfolding Calls.slice after_slice slice_takes
 slice-spec =
     tie.close
-    (tie.spec (λ c κs. search rules) (λ c. search rules) (λ c. search rules)
-    (λ c. rw (← c.before.of-slice.ensures, ne_eqb _ _ c.if1.true)) take-until-requires (λ c. search rules) (λ c. search rules) returns-2)
+    (tie.spec (λ c κs. search rules) (λ c. search rules) (λ c. search rules) returns take-until-requires (λ c. search rules) (λ c. search rules)
+    returns-2)

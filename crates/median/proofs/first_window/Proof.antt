@@ -19,15 +19,14 @@ decreases-loop pixels size border rows counts₀ c₀ counts c = length rows - c
 put-column-requires : tie.Need-put-column-requires invariant-loop decreases-loop
 put-column-requires c κs =
     let i = c.before.before.before.loop.invariant in
-    let s = c.before.before.before.before.before.before.before in
-    let p = counts_of s.requires.0 i.0 i.1 in
-    (p, record { each = s.requires.0.small; column = c.before.start-column.ensures.1 }, s.requires.0.few, omega arith)
+    let p = counts_of c.before.before.before.before.before.before.before.requires.0 i.0 i.1 in
+    search rules
 
 loop-again : tie.Need-loop-preserved invariant-loop decreases-loop
 loop-again c =
     let l = c.before.before.before.before.before.before.loop in
     let k = c.before.before.before.before.before.before.before.before.before in
-    let q = c.before.before.before.before.start-column.ensures.0 in (
+    let q = c.before.before.before.before.place_column.ensures in (
       search rules,
       put_holds (λ i. omega (arith, k.shared-slice-known.given i)) l.invariant.1 (rw zero-add q) c.before.before.put-column.ensures.0,
     )

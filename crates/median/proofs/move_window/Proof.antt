@@ -15,8 +15,7 @@ take-column-requires c κs =
     let k = c.before.before.before.before.before in
     let s = k.before in (
       counts_of s.requires.0 (omega arith) s.requires.2,
-      record { each = s.requires.0.small; column = c.before.before.start-column.ensures.1 },
-      left_counted s.requires.0 (bytes k) s.requires.2 c.before.before.start-column.ensures.0 c.before.start-column2.ensures.0 s.requires.3,
+      left_counted s.requires.0 (bytes k) s.requires.2 c.before.before.place_column.ensures c.before.place-column2.ensures s.requires.3,
     )
 
 put-column-requires : tie.Need-put-column-requires
@@ -25,8 +24,7 @@ put-column-requires c κs =
     let q = t.before.before in
     let k = q.before.before.before.before in
     let s = k.before in (
-      less-counts s.requires.0 (bytes k) s.requires.2 q.before.start-column.ensures.0 q.start-column2.ensures.0 s.requires.3 t.take-column.ensures.0,
-      record { each = s.requires.0.small; column = q.start-column2.ensures.1 },
+      less-counts s.requires.0 (bytes k) s.requires.2 q.before.place_column.ensures q.place-column2.ensures s.requires.3 t.take-column.ensures.0,
       s.requires.0.few,
       omega (arith, t.take-column.ensures.1, s.requires.4),
     )
@@ -38,7 +36,7 @@ returns c =
     let q = t.before.before in
     let k = q.before.before.before.before in
     let s = k.before in
-    moved s.requires.0 (bytes k) s.requires.2 q.before.start-column.ensures.0 q.start-column2.ensures.0 s.requires.3
+    moved s.requires.0 (bytes k) s.requires.2 q.before.place_column.ensures q.place-column2.ensures s.requires.3
     t.take-column.ensures.0 t.take-column.ensures.1 p.put-column.ensures
 
 pub move-window-spec : {M : Type 1} → statement M

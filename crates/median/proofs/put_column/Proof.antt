@@ -4,35 +4,30 @@ use native.Mathlib.Omega.{arith}
 use mathlib.Core.Path.{◌≡◌}
 use Prim.Native.Nat.{ℕ, ◌+◌, ◌-◌, ◌<◌}
 use lib.Dec.{ltb}
-use lib.ListN.{length, get_or}
+use lib.ListN.{length}
 use Rattle.rules.specs.Picture.{tally}
+use Rattle.rules.specs.Limits.{max_side}
 use Rattle.rules.proofs.Tallies.{tally_all}
-use Rattle.median.specs.Counts.{column_at, belows, most_counted}
+use Rattle.border.proofs.Reading.{read_byte}
+use Rattle.median.specs.Counts.{column_at, belows}
 use Rattle.median.proofs.Counting.{Changing, changing_start, changing_more, changing_all, put_small, belows_more}
 use Rattle.median.proofs.put_column.Statement.{statement}
 use Rattle.median.proofs.put_column.Tie as tie
 
 abbrev invariant-loop : tie.invariant-loop
-invariant-loop pixels rows x value below counts₀ n₀ j₀ counts n j =
-    Changing (λ c. c + 1) (column_at pixels rows x) (length rows) j counts₀ counts × (n ≡ below + belows (column_at pixels rows x) j value)
+invariant-loop pixels size rows x value below counts₀ n₀ j₀ counts n j =
+    Changing (λ c. c + 1) (column_at pixels size rows x) (length rows) j counts₀ counts × (n ≡ below + belows (column_at pixels size rows x) j value)
 
 abbrev decreases-loop : tie.decreases-loop
-decreases-loop pixels rows x value below counts₀ n₀ j₀ counts n j = length rows - j
+decreases-loop pixels size rows x value below counts₀ n₀ j₀ counts n j = length rows - j
 
 -- the column, whose samples are bytes
 module _ (k : tie.After-shared-slice-known invariant-loop decreases-loop) where
   abbrev column : ℕ → ℕ
-  column = let a = k.before.args in column_at a.pixels.now a.rows.now a.x
+  column = let a = k.before.args in column_at a.pixels.now a.size a.rows.now a.x
 
   counted : (j : ℕ) → column j < length k.before.args.counts.now
-  counted j = rw k.before.pre.0.count (omega (arith, k.shared-slice-known.given (get_or k.before.args.rows.now j 0 + k.before.args.x)))
-
--- where a row begins and where the column lies in it are small
-add-byte-at : tie.Need-overflow-add-byte-at invariant-loop decreases-loop
-add-byte-at c =
-    let l = c.before.before in
-    let p = l.before.before.before.before.requires.1 in
-    omega (arith, p.each l.loop.j, p.column)
+  counted j = rw k.before.pre.0.count (read_byte _ _ (λ i. omega (arith, k.shared-slice-known.given i)) _ _)
 
 loop-holds : tie.Need-loop-init invariant-loop decreases-loop
 unfolding tally
@@ -42,8 +37,8 @@ add-counts : tie.Need-overflow-add-counts invariant-loop decreases-loop
 add-counts c =
     let k = c.before.before.before.before.before.before.before in
     let l = c.before.before.before.before.loop in
-    let b = c.before.byte_at.result in
-    rw l.invariant.0.is (omega (arith, put_small (column k) k.before.args.counts.now (counted k) l.j b most_counted (k.before.requires.0.small b)))
+    let b = c.before.read.result in
+    rw l.invariant.0.is (omega (arith, put_small (column k) k.before.args.counts.now (counted k) l.j b max_side (k.before.requires.0.small b)))
 
 one-more-requires : tie.Need-one-more-requires invariant-loop decreases-loop
 one-more-requires c κs =
@@ -55,7 +50,7 @@ loop-again : tie.Need-loop-preserved invariant-loop decreases-loop
 loop-again c =
     let k = c.before.before.before.before.before.before.before.before in
     let l = c.before.before.before.before.before.loop in
-    let q = c.before.before.byte_at.ensures in (
+    let q = c.before.before.read.ensures in (
       changing_more c.before.before.before.before.loop-test.true l.invariant.0 q,
       omega (arith, c.one_more.ensures, l.invariant.1, belows_more (column k) q k.before.args.value),
     )
@@ -69,6 +64,6 @@ returns c =
 pub put-column-spec : {M : Type 1} → statement M
 put-column-spec =
     tie.close
-    (tie.spec invariant-loop decreases-loop loop-holds (λ c. search rules) (λ c. search rules) add-byte-at (λ c κs. search rules) (λ c. search rules) (λ c. search rules)
+    (tie.spec invariant-loop decreases-loop loop-holds (λ c. search rules) (λ c. search rules) (λ c κs. search rules) (λ c. search rules) (λ c. search rules)
     (λ c. search rules) add-counts (λ c. search rules) (λ c. search rules) one-more-requires (λ c. search rules) (λ c. search rules) loop-again
     (λ c. search rules) returns)

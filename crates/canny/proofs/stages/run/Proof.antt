@@ -10,26 +10,23 @@ use Rattle.canny.proofs.Running.{granted, roomed, walkable, ran}
 use Rattle.canny.proofs.stages.run.Statement.{statement}
 use Rattle.canny.proofs.stages.run.Tie as tie
 
--- ---- the moments of a run, each from a later one: after each call, and where it began. A call's `kept` says of its parameters, in their
--- order, that a lent buffer is as long as before.
+-- ---- the moments of a run, each from a later one: a call has given back what it was lent
 
-abbrev wiped : tie.After-count-of → tie.After-clear-walk
-wiped c = c.before.before.before.before.before.before.before.before
+abbrev cleared-walk : tie.After-count-of → tie.After-stack2
+cleared-walk c = c.before.before.before
 
-abbrev walked : tie.After-clear-walk → tie.After-walk
-walked c = c.before.before.before.before.before.before.before.before.before.before
+abbrev walked : tie.After-count-of → tie.After-map
+walked c = (cleared-walk c).before.before.before.before.before.before.before.before.before.before
 
-abbrev cleared : tie.After-walk-arg4 → tie.After-clear-stages
-cleared c = c.before.before.before.before.before.before.before.before.before.before
+abbrev cleared : tie.After-count-of → tie.After-blurred2
+cleared c = (walked c).before.before.before.before.before.before.before.before.before.before.before
 
-abbrev suppressed : tie.After-clear-stages → tie.After-suppress
-suppressed c = c.before.before.before.before.before.before.before.before.before.before.before.before.before
+abbrev suppressed : tie.After-blurred2 → tie.After-blurred
+suppressed c = c.before.before.before.before.before.before.before.before.before.before.before
 
-abbrev sized : tie.After-struct-known → tie.Start
-sized c = c.before.before.before.before.before.before.before.before.before
-
-abbrev begun : tie.After-suppress-arg5 → tie.Start
-begun c = sized c.before.before.before.before.before
+abbrev begun : tie.After-blurred → tie.Start
+begun c =
+    c.before.before.before.before.before.before.before.before.before.before.before.before.before.before.before.before.before.before.before.before.before.before
 
 -- ---- what acceptance grants
 
@@ -47,41 +44,47 @@ module _ (s : tie.Start) where
 
 walk-requires : tie.Need-walk-requires
 walk-requires c κs =
-    let u = suppressed (cleared c) in
-    let s = begun u.before in
+    let u = suppressed c.before.before.before.before.before in
+    let s = begun u in
     let a = s.args in
-    walkable a.size a.pixels.now a.taps.now a.thresholds (lent s) a.map.now s.pre u.suppress.ensures
+    walkable a.size a.pixels.now a.taps.now a.thresholds (lent s) a.map.now s.pre
+    u.before.before.before.before.before.before.before.suppress.ensures
 
 returns : tie.Need-returns
 returns c =
-    let e = wiped c in
-    let w = walked e in
-    let d = cleared w.before in
+    let e = cleared-walk c in
+    let w = walked c in
+    let d = cleared c in
     let u = suppressed d in
-    let s = begun u.before in
+    let s = begun u in
     let a = s.args in
     let h = holds s in
-    let k = u.suppress.kept in
-    let l = w.walk.kept in
-    ran a.size a.pixels.now a.taps.now a.thresholds (lent s) a.map.now s.pre u.suppress.ensures w.walk.ensures
+    ran a.size a.pixels.now a.taps.now a.thresholds (lent s) a.map.now s.pre
+    u.before.before.before.before.before.before.before.suppress.ensures
+    w.before.before.before.before.before.walk.ensures
     (record {
-      work = omega (arith, h.work, k.1.1.1.0);
-      magnitude = omega (arith, h.magnitude, k.1.1.1.1.0);
-      gx = omega (arith, h.gx, k.1.1.1.1.1.0);
-      gy = omega (arith, h.gy, k.1.1.1.1.1.1.0);
-      blurred = omega (arith, h.blurred, k.1.1.1.1.1.1.1.0);
-      marks = omega (arith, h.marks, l.1.1.1.0);
-      stack = omega (arith, h.stack, l.1.1.1.1.0);
-      room = omega (arith, h.room, l.1.1.1.1.1.0);
+      work = omega (arith, h.work, u.before.before.before.before.before.before.work.given);
+      magnitude = omega (arith, h.magnitude, u.before.before.before.before.magnitude.given);
+      gx = omega (arith, h.gx, u.before.before.gx.given);
+      gy = omega (arith, h.gy, u.before.gy.given);
+      blurred = omega (arith, h.blurred, u.blurred.given);
+      marks = omega (arith, h.marks, w.before.before.before.before.marks.given);
+      stack = omega (arith, h.stack, w.before.before.stack.given);
+      room = omega (arith, h.room, w.map.given);
     })
-    d.clear-stages.ensures e.clear-walk.ensures c.count_of.ensures.1
+    d.before.before.before.before.before.clear-stages.ensures e.before.before.before.before.before.clear-walk.ensures c.count_of.ensures.1
 
 pub run_spec : {M : Type 1} → statement M
 run_spec =
     tie.close
-    (tie.spec (λ c. omega (arith, (side_off (sized c).args.size (grants (sized c)).sides).small)) (λ c κs. grants (begun c))
+    (tie.spec
+    (λ c. let s = c.before.before.before.before.before.before.before.before.before in omega (arith, (side_off s.args.size (grants s).sides).small))
+    (λ c κs. grants c.before.before.before.before.before.before.before.before.before.before.before.before.before.before)
     (λ c κs. search rules) walk-requires (λ c κs. search rules) (λ c κs. search rules)
-    (λ c. (wiped c).clear-walk.auto.0 ∙ (suppressed (cleared (walked (wiped c)).before)).suppress.auto.1.1.1.0)
-    (λ c. let d = cleared (walked (wiped c)).before in d.clear-stages.kept.0 ∙ (suppressed d).suppress.kept.1.1.1.1.0)
-    (λ c. let d = cleared (walked (wiped c)).before in d.clear-stages.kept.1.0 ∙ (suppressed d).suppress.kept.1.1.1.1.1.0)
-    (λ c. search rules) (λ c. search rules) (λ c. search rules) (λ c. search rules) (λ c. search rules) returns)
+    (λ c. (cleared-walk c).before.before.before.before.work2.given ∙ (suppressed (cleared c)).before.before.before.before.before.before.work.given)
+    (λ c. (cleared c).before.before.before.before.magnitude2.given ∙ (suppressed (cleared c)).before.before.before.before.magnitude.given)
+    (λ c. (cleared c).before.before.gx2.given ∙ (suppressed (cleared c)).before.before.gx.given)
+    (λ c. (cleared c).before.gy2.given ∙ (suppressed (cleared c)).before.gy.given)
+    (λ c. (cleared c).blurred2.given ∙ (suppressed (cleared c)).blurred.given)
+    (λ c. (cleared-walk c).before.before.marks2.given ∙ (walked c).before.before.before.before.marks.given)
+    (λ c. (cleared-walk c).stack2.given ∙ (walked c).before.before.stack.given) (λ c. (walked c).map.given) returns)

@@ -18,21 +18,21 @@ sloped c = (measured c).before.before.before.before.before.before.before
 abbrev smoothed : tie.After-slice-known7 → tie.After-blurred
 smoothed c = (sloped c).before.before.before.before.before.before.before.before
 
-abbrev begun : tie.After-struct-known → tie.Start
-begun c = c.before.before.before.before.before.before
+mul-n : tie.Need-overflow-mul-n
+mul-n c = let s = c.before.before.before.before.before.before in omega (arith, (side_off s.args.size s.requires.sides).small)
 
 returns : tie.Need-returns
 returns c =
     let b = (smoothed c).before.before.before in
-    all-stages (begun b.before.before.before).requires b.gaussian-blur.ensures (sloped c).before.before.sobel-gradients.ensures
+    all-stages b.before.before.before.before.before.before.before.before.before.pre b.gaussian-blur.ensures
+    (sloped c).before.before.sobel-gradients.ensures
     (measured c).before.gradient-magnitude.ensures c.before.before.non-maximum-suppression.ensures
 
 pub suppress-spec : {M : Type 1} → statement M
 suppress-spec =
     tie.close
-    (tie.spec (λ c. omega (arith, (side_off (begun c).args.size (begun c).requires.sides).small)) (λ c κs. search rules) (λ c. search rules)
-    (λ c. search rules) (λ c. search rules) (λ c κs. search rules) (λ c. search rules) (λ c. search rules) (λ c. search rules) (λ c. search rules)
-    (λ c. search rules) (λ c. search rules) (λ c κs. search rules) (λ c. search rules) (λ c. search rules) (λ c. search rules) (λ c. search rules)
-    (λ c. search rules) (λ c. search rules) (λ c. search rules) (λ c. search rules) (λ c. search rules) (λ c κs. search rules)
-    (λ c. c.before.work2.given ∙ (smoothed c).before.before.work.given) (λ c. (measured c).magnitude.given) (λ c. (sloped c).before.gx.given)
-    (λ c. (sloped c).gy.given) (λ c. (smoothed c).blurred.given) returns)
+    (tie.spec mul-n (λ c κs. search rules) (λ c. search rules) (λ c. search rules) (λ c. search rules) (λ c κs. search rules) (λ c. search rules)
+    (λ c. search rules) (λ c. search rules) (λ c. search rules) (λ c. search rules) (λ c. search rules) (λ c κs. search rules) (λ c. search rules)
+    (λ c. search rules) (λ c. search rules) (λ c. search rules) (λ c. search rules) (λ c. search rules) (λ c. search rules) (λ c. search rules)
+    (λ c. search rules) (λ c κs. search rules) (λ c. c.before.work2.given ∙ (smoothed c).before.before.work.given)
+    (λ c. (measured c).magnitude.given) (λ c. (sloped c).before.gx.given) (λ c. (sloped c).gy.given) (λ c. (smoothed c).blurred.given) returns)

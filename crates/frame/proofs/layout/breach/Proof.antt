@@ -7,10 +7,6 @@ use Rattle.rules.specs.Frame.{breach}
 use Rattle.frame.proofs.layout.breach.Statement.{statement}
 use Rattle.frame.proofs.layout.breach.Tie as tie
 
--- past the tests of both sides
-abbrev sided : tie.After-wide6 → tie.Else3
-sided c = c.before.before.before.before
-
 returns-4 : tie.Need-returns-4
 unfolding breach
 returns-4 c =
@@ -39,5 +35,5 @@ breach-spec =
     let e = le-ltb _ _ (rw w.wide.ensures.0 at c.before.before.if2.false) in
     rw (le-ltb _ _ w.before.if1.false, e, lt-ltb _ _ (rw c.before.wide2.ensures.0 at c.if3.true)))
     (λ c κs. search rules) (λ c κs. search rules) (λ c κs. search rules) (λ c κs. search rules) (λ c. search rules) (λ c. search rules)
-    (λ c. omega (arith, mul-le-mul (sided c).before.before.if2.false (sided c).if3.false))
-    (λ c. omega (arith, mul-le-mul (sided c).before.before.if2.false (sided c).if3.false)) returns-4)
+    (λ c. omega (arith, mul-le-mul c.before.before.before.before.before.before.if2.false c.before.before.before.before.if3.false))
+    (λ c. omega (arith, mul-le-mul c.before.before.before.before.before.before.if2.false c.before.before.before.before.if3.false)) returns-4)

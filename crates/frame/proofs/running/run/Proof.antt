@@ -10,22 +10,17 @@ use native.Mathlib.Omega.{arith}
 use Rattle.frame.proofs.running.run.Statement.{statement}
 use Rattle.frame.proofs.running.run.Tie as tie
 
--- ---- the moments: after the run, from the end, and where it began
-
-abbrev ended : tie.After-slice-known2 → tie.After-canny
-ended c = c.before.before.before.before.before.before.before.before.before
-
-abbrev begun : tie.After-canny → tie.Start
-begun c = c.before.before.before.before.before.before.before.before.before.before.before.before
-
 returns : tie.Need-returns
 returns c =
-    let s = begun (ended c) in
-    let h = s.pre.small in
-    let m : area s.args.size ≤ length s.args.map.now = omega (arith, h, s.pre.room) in
-    ap shown (ended c).canny.ensures
-    ∙ any_scratch _ _ _ _ _ _ (record { work = h; magnitude = h; gx = h; gy = h; blurred = h; marks = h; stack = h; room = m })
-    ∙ sym (ran_is _ _ _ _ _ m)
+    let r = c.before.before.before.before.before.before.before.before.before in
+    let s = r.before.before.before.before.before.before.before.before.before.before.before.before in
+    let a = s.args in
+    let h = s.requires.small in
+    let m : area a.size ≤ length a.map.now = omega (arith, h, s.requires.room) in
+    ap shown r.canny.ensures
+    ∙ any_scratch a.size a.pixels.now a.taps.now a.thresholds _ a.map.now
+    (record { work = h; magnitude = h; gx = h; gy = h; blurred = h; marks = h; stack = h; room = m })
+    ∙ sym (ran_is a.size a.pixels.now a.taps.now a.thresholds a.map.now m)
 
 pub run_spec : {M : Type 1} → statement M
 run_spec =

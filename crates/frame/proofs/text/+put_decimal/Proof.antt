@@ -1,10 +1,11 @@
 -- `put_decimal` meets its contract: the measure is the number, which falls to its tenth. Assumes nothing.
-use Prim.Native.Nat.{ℕ, ◌<◌}
+use Prim.Native.Nat.{ℕ, ◌<◌, ◌+◌, ◌/◌}
 use borrow.Fn.Kinds.{In}
 use borrow.Fn.PlainCycle.{Measures, is, falls, and}
 use lib.ListN.{length-set}
+use Rattle.rules.specs.Frame.{decimal}
 use Rattle.frame.proofs.Decimals.{length_1, length_more}
-use Rattle.frame.proofs.Writing.{put_of, only_digit, last_digit}
+use Rattle.frame.proofs.Writing.{Put, only_digit, last_digit}
 use borrow.Author.Rules.{rules}
 use native.Mathlib.Omega.{arith}
 use Rattle.frame.proofs.text.put_decimal.Reads as put-decimal
@@ -44,6 +45,8 @@ pub +put-decimal-spec : {M : Type 1} → statement M
     (λ c. let d = c.before.before.before in let s = d.before.before.before.before in
     omega (arith, length_more s.args.n d.before.before.if1.false, s.requires.1, d.put-decimal.ensures.0, d.put-decimal.auto.0))
     (λ c. simp length-set c.before.before.before.put-decimal.auto.0)
-    (λ c. let d = c.before.before.before in
-    let q = last_digit d.before.before.if1.false (put_of _ _ _ d.put-decimal.ensures) in
+    (λ c. let d = c.before.before.before in let a = d.before.before.before.before.args in
+    let p : Put a.text.now a.at (decimal (a.n / 10)) d.put-decimal.result d.put-decimal.new.0 =
+    record { place = d.put-decimal.ensures.0; is = d.put-decimal.ensures.1 } in
+    let q = last_digit d.before.before.if1.false p in
     (q.place, rw c.digit2.ensures q.is)))

@@ -3,7 +3,7 @@ use Prim.Native.Nat.{◌+◌, ◌-◌, ◌≤◌}
 use mathlib.Core.Bool.{cond}
 use borrow.Author.Tests.{lt-ltb, le-ltb}
 use lib.Dec.{ltb}
-use lib.ListN.{length, get_or}
+use lib.ListN.{length, get_or, length-set}
 use Rattle.rules.specs.Frame.{pixel_text, newline}
 use Rattle.rules.proofs.Fill.{Filling, filling_start, filling_more, filling_end}
 use borrow.Author.Rules.{rules}
@@ -30,4 +30,4 @@ pub put-row-spec : {M : Type 1} → statement M
 put-row-spec =
     tie.close
     (tie.spec invariant-loop decreases-loop (λ c. (search rules, filling_start)) (λ c. search rules) (λ c κs. search rules) (λ c. search rules) (λ c. search rules)
-    (λ c. search rules) loop-again (λ c. search rules) (λ c. search rules) returns)
+    (λ c. search rules) loop-again (λ c. search rules) (λ c. simp length-set (omega arith)) returns)

@@ -1,6 +1,6 @@
 -- `put_word` meets its contract: a copy, byte by byte. Assumes nothing.
 use Prim.Native.Nat.{◌≤◌, ◌-◌, ◌+◌}
-use mathlib.Core.Path.{◌≡◌}
+use mathlib.Core.Path.{◌≡◌, refl}
 use lib.ListN.{length, take}
 use lib.Seq.{take-length}
 use Rattle.frame.proofs.Writing.{Put, put_length, copy_more}
@@ -31,5 +31,5 @@ returns c =
 pub put-word-spec : {M : Type 1} → statement M
 put-word-spec =
     tie.close
-    (tie.spec invariant-loop decreases-loop (λ c. search rules) (λ c. search rules) (λ c. search rules) (λ c. search rules) (λ c. search rules)
-    (λ c. search rules) loop-again (λ c. search rules) (λ c. search rules) returns)
+    (tie.spec invariant-loop decreases-loop (λ c. (search rules, refl, record { place = refl; is = refl })) (λ c. search rules) (λ c. search rules) (λ c. search rules)
+    (λ c. search rules) (λ c. search rules) loop-again (λ c. search rules) (λ c. search rules) returns)

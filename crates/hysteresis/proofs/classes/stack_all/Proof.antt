@@ -21,6 +21,13 @@ decreases-loop marks stack₀ n pending₀ i₀ stack pending i = n - i
 few : (m : tie.At-loop invariant-loop decreases-loop) → m.loop.pending ≤ m.loop.i
 few m = few_stacked _ _ _ m.loop.invariant.2
 
+loop-holds : tie.Need-loop-init invariant-loop decreases-loop
+unfolding stacked
+loop-holds c = search rules
+
+stack-one-requires : tie.Need-stack-one-requires invariant-loop decreases-loop
+stack-one-requires c κs = (search rules, omega (arith, few c.before.before.before))
+
 loop-again : tie.Need-loop-preserved invariant-loop decreases-loop
 unfolding stacked
 loop-again c =
@@ -35,8 +42,7 @@ returns c =
     rw e at l.invariant.2
 
 pub stack-all-spec : {M : Type 1} → statement M
-unfolding stacked
 stack-all-spec =
     tie.close
-    (tie.spec invariant-loop decreases-loop (λ c. search rules) (λ c. search rules) (λ c κs. (search rules, omega (arith, few c.before.before.before)))
-    (λ c. search rules) (λ c. search rules) loop-again (λ c. search rules) returns)
+    (tie.spec invariant-loop decreases-loop loop-holds (λ c. search rules) stack-one-requires (λ c. search rules) (λ c. search rules) loop-again
+    (λ c. search rules) returns)

@@ -5,9 +5,15 @@ use Rattle.hysteresis.specs.Split.{put}
 use Rattle.hysteresis.proofs.classes.stack_one.Statement.{statement}
 use Rattle.hysteresis.proofs.classes.stack_one.Tie as tie
 
-pub stack-one-spec : {M : Type 1} → statement M
+returns : tie.Need-returns
 unfolding put
+returns c = rw (eq-eqb _ _ c.if1.true)
+
+returns-2 : tie.Need-returns-2
+unfolding put
+returns-2 c = rw (ne_eqb _ _ c.if1.false)
+
+pub stack-one-spec : {M : Type 1} → statement M
 stack-one-spec =
     tie.close
-    (tie.spec (λ c. search rules) (λ c. search rules) (λ c. search rules) (λ c. search rules) (λ c. search rules)
-    (λ c. rw (eq-eqb _ _ c.if1.true)) (λ c. rw (ne_eqb _ _ c.if1.false)))
+    (tie.spec (λ c. search rules) (λ c. search rules) (λ c. search rules) (λ c. search rules) (λ c. search rules) returns returns-2)

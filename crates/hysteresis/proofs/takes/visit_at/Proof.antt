@@ -8,20 +8,18 @@ use Rattle.hysteresis.proofs.Fits.{room_for}
 use Rattle.hysteresis.proofs.takes.visit_at.Statement.{statement}
 use Rattle.hysteresis.proofs.takes.visit_at.Tie as tie
 
--- where the visit began, from past the four tests
-abbrev begun : tie.Else4 → tie.Start
-begun c = c.before.before.before.before.before.before.before.before
-
--- past them the place is in the picture
-inn : (c : tie.Else4) → let a = (begun c).args in Within a.size a.nx a.ny
+-- past the four tests the place is in the picture
+inn : (c : tie.Else4) → let a = c.before.before.before.before.before.before.before.before.args in Within a.size a.nx a.ny
 inn c = omega arith
 
 look-at-requires : tie.Need-look-at-requires
 look-at-requires c κs =
-    let e = c.before.before.before in
-    let l = place_in_lem (inn e) in
-    let f = (begun e).requires in
-    (omega arith, omega arith, λ z. omega (arith, room_for _ f _ l z))
+    let l = place_in_lem (inn c.before.before.before) in
+    let f = c.before.before.before.before.before.before.before.before.before.before.before.requires in
+    (omega (arith, f.marks_long), omega (arith, f.small), λ e. omega (arith, room_for _ f _ l e, f.stack_long))
+
+returns-5 : tie.Need-returns-5
+returns-5 c = c.before.before.before.before.look_at.ensures ∙ sym (visit_in _ (inn c.before.before.before.before.before.before.before.before))
 
 pub visit-at-spec : {M : Type 1} → statement M
 visit-at-spec =
@@ -29,5 +27,4 @@ visit-at-spec =
     (tie.spec (λ c. sym (visit_out _ _ _ _ (λ w. omega arith))) (λ c. sym (visit_out _ _ _ _ (λ w. omega arith)))
     (λ c. sym (visit_out _ _ _ _ (λ w. omega arith))) (λ c. sym (visit_out _ _ _ _ (λ w. omega arith)))
     (λ c. omega (arith, place_in_lem (inn c.before.before.before))) (λ c. omega (arith, place_in_lem (inn c.before.before.before)))
-    look-at-requires (λ c. search rules) (λ c. search rules)
-    (λ c. let k = c.before.before.before.before in k.look_at.ensures ∙ sym (visit_in _ (inn k.before.before.before.before))))
+    look-at-requires (λ c. search rules) (λ c. search rules) returns-5)

@@ -4,21 +4,19 @@ use Rattle.kelontsira.proofs.Lent.{run_told}
 use Rattle.kelontsira.proofs.run.kelontsira_canny.Statement.{statement}
 use Rattle.kelontsira.proofs.run.kelontsira_canny.Tie as tie
 
--- ---- the moments from the end back: `canny` has given a buffer back
-
-abbrev marked : tie.After-tell → tie.After-marks
-marked c = c.before.before.before.before.before.before.before
-
-abbrev sloped : tie.After-tell → tie.After-gx
-sloped c = (marked c).before.before.before.before
-
-abbrev worked : tie.After-tell → tie.After-work
-worked c = (sloped c).before.before.before.before
+returns : tie.Need-returns
+returns c =
+    run_told _ _ _ _ c.before.before.before.before.before.before.before.before.before.before.before.before.before.before.before.before.canny.ensures
+    _ _ c.tell.ensures
 
 pub kelontsira-canny-spec : {M : Type 1} → statement M
 kelontsira-canny-spec =
     tie.close
-    (tie.spec (λ c κs. search rules) (λ c κs. search rules) (λ c. (worked c).work.given) (λ c. (sloped c).before.before.magnitude.given)
-    (λ c. (sloped c).gx.given) (λ c. (marked c).before.before.before.gy.given) (λ c. (marked c).before.before.blurred.given)
-    (λ c. (marked c).marks.given) (λ c. search rules) (λ c. c.before.before.before.map.given)
-    (λ c. run_told _ _ _ _ (worked c).before.canny.ensures _ _ c.tell.ensures))
+    (tie.spec (λ c κs. search rules) (λ c κs. search rules)
+    (λ c. c.before.before.before.before.before.before.before.before.before.before.before.before.before.before.before.work.given)
+    (λ c. c.before.before.before.before.before.before.before.before.before.before.before.before.before.magnitude.given)
+    (λ c. c.before.before.before.before.before.before.before.before.before.before.before.gx.given)
+    (λ c. c.before.before.before.before.before.before.before.before.before.before.gy.given)
+    (λ c. c.before.before.before.before.before.before.before.before.before.blurred.given)
+    (λ c. c.before.before.before.before.before.before.before.marks.given) (λ c. c.before.before.before.before.before.stack.given)
+    (λ c. c.before.before.before.map.given) returns)
