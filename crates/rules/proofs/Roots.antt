@@ -49,6 +49,7 @@ whole (suc d) t h =
 -- ---- the whole number nearest the root of t: two tests, which only one number passes
 
 apart : (t a b : ℕ) → Near t a → Near t b → a < b → ⊥
+apart t a zero p q h = absurd (omega arith)
 apart t a (suc b) p q h = let l : a ≤ b = omega arith in lt_irrefl t (omega (arith, suc_sq b, mul-le-mul l l))
 
 pub near_only : (t a b : ℕ) → Near t a → Near t b → a ≡ b

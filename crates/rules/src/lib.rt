@@ -1,4 +1,6 @@
 // The shared types, limits and refusal numbers of document 01. The rules themselves are in specs/, their laws in proofs/.
+#![tactic(auto)]
+
 pub mod codes;
 
 // What a sample outside the picture reads as (01.Border.3 to 01.Border.5).
