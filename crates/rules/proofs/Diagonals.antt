@@ -1,12 +1,11 @@
 -- Where no inner pixel has a diagonal gradient, the vendor's neighbour table gives what the published one does (02.2.5). Assumes nothing.
 use mathlib.Core.Path.{◌≡◌, refl, ap}
-use mathlib.Core.Bool.{Bool, true, false, cond, ◌&&◌, ◌||◌}
+use mathlib.Core.Bool.{Bool, true, false, ◌&&◌, ◌||◌}
 use mathlib.Core.List.{List}
-use Prim.Native.Nat.{ℕ, ◌+◌, ◌*◌, ◌/◌, ◌%◌, ◌<◌}
+use Prim.Native.Nat.{ℕ, ◌+◌, ◌*◌, ◌/◌, ◌%◌}
 use lib.Dec.{eqb}
 use lib.ListN.{get_or}
 use lib.IntN.{ℤ, pos}
-use lib.Ieee.{Float}
 use Rattle.rules.specs.Picture.{area, in_row_order}
 use Rattle.rules.specs.Sector.{sector_of, neighbours}
 use Rattle.rules.specs.Suppression.{Values, inner, suppressed_by}

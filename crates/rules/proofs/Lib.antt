@@ -26,3 +26,4 @@ pub mod Sizes
 pub mod Gradients
 pub mod Sorting
 pub mod Frames
+pub mod Examples

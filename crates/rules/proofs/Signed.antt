@@ -1,7 +1,7 @@
 -- Signed numbers at the code's edge: a signed local is its bits, so what the code reads back is `to_z w (of_z w z)`. Assumes nothing.
 use mathlib.Core.Path.{◌≡◌, refl, sym, ap, ◌∙◌}
 use mathlib.Core.Bool.{Bool, true, false, cond}
-use Prim.Native.Nat.{ℕ, zero, suc, ◌+◌, ◌-◌, ◌%◌, ◌/◌, ◌<◌, ◌≤◌, ◌^◌}
+use Prim.Native.Nat.{ℕ, zero, suc, ◌-◌, ◌%◌, ◌/◌, ◌<◌, ◌≤◌, ◌^◌}
 use native.Mathlib.Nat.{mod-lt, mod_self, mod-eq_of_lt, div-le_self, sub-zero}
 use native.Mathlib.Omega.{arith}
 use lib.Dec.{T, ltb}

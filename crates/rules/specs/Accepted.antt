@@ -1,6 +1,6 @@
 -- What an accepted call knows of what it is lent: the fact that keeps a row of its table from applying (proofs/Rows has the laws). Records
 -- that say what an accepted call has are made of these.
-use Rattle.std.specs.Prelude.{ℕ, ◌≤◌, ◌≡◌, List, length}
+use Rattle.std.specs.Prelude.{◌≤◌, ◌≡◌, List, length}
 use Rattle.rules.specs.Limits.{max_side, max_area}
 use Rattle.rules.specs.Picture.{area, entries}
 use Rattle.rules.specs.declared.Size.{Size}

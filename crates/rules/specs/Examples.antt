@@ -1,30 +1,29 @@
 -- Examples that the checker computes: 01's starred ones, as one list and one statement about it (01.Proved.1 to 01.Proved.14), and a list of
 -- `slips`, inputs at which a definition that is wrong in one place gives another answer than 01's.
-use Rattle.std.specs.Prelude.{ℕ, zero, suc, ◌+◌, ◌-◌, ◌*◌, ◌/◌, ◌%◌, ◌≡◌, refl, Bool, false, cond, ◌||◌, List, [], ◌∷◌, ◌++◌, map, eqb, length, get_or, set, drop, ℤ, pos, negsuc, Float}
+use Rattle.std.specs.Prelude.{ℕ, zero, suc, ◌+◌, ◌-◌, ◌*◌, ◌/◌, ◌%◌, ◌≡◌, Bool, false, cond, ◌||◌, List, [], ◌∷◌, ◌++◌, map, eqb, length, get_or, set, drop, ℤ, pos, negsuc, Float}
 use Rattle.std.proofs.Math.Option.{Option, some, none}
 use Rattle.std.specs.Float.{nan, inf, fin, binary32}
-use Rattle.std.specs.Float.Ieee.{up, down, add, mul, of_int, of_bits, to_bits, odd, le, lt}
+use Rattle.std.specs.Float.Ieee.{up, down, of_bits, to_bits}
 use Rattle.rules.specs.Limits.{max_taps, max_kernel, max_window}
-use Rattle.rules.specs.Picture.{area, in_row_order, tabulate, zeros, any_below, tally, bit}
-use Rattle.rules.specs.Border.{sample_at, mode_of}
-use Rattle.rules.specs.Sums.{plus_zero, whole_f32, ordered_sum, to_byte}
-use Rattle.rules.specs.Filters.{convolved_at, separable_at, kernel_sum, kernel_term}
-use Rattle.rules.specs.Median.{median_at, window_at, sorted, insert, occurrences, default_window}
-use Rattle.rules.specs.Gradient.{gradient_at, gradient_term, sum_z}
-use Rattle.rules.specs.Root.{magnitude_of, root_of, near_root, whole_root, sobel_byte, least_from}
+use Rattle.rules.specs.Picture.{area, in_row_order, tabulate, zeros, bit}
+use Rattle.rules.specs.Border.{mode_of}
+use Rattle.rules.specs.Sums.{plus_zero, whole_f32, to_byte}
+use Rattle.rules.specs.Filters.{convolved_at, separable_at}
+use Rattle.rules.specs.Median.{occurrences, default_window}
+use Rattle.rules.specs.Root.{magnitude_of, sobel_byte}
 use Rattle.rules.specs.Sector.{sector_of, neighbours}
-use Rattle.rules.specs.Suppression.{Table, suppressed_by, suppressed_at}
-use Rattle.rules.specs.Walk.{state, at_least, started, classed, class, sliced, takes, taken, pop, looks, visit, look, unusable}
+use Rattle.rules.specs.Suppression.{Table}
+use Rattle.rules.specs.Walk.{state, at_least, unusable}
 use Rattle.rules.specs.Refusals.{Rule, first, Scratch, side_row, one_side_row, count_row, weight_row, threshold_row, order_row}
 use Rattle.rules.specs.Refusals.{kernel_rows, separable_rows, blur_rows, box_rows, plain_rows, median_rows, gradient_rows, magnitude_rows}
 use Rattle.rules.specs.Refusals.{suppression_rows, start_rows, slice_rows, map_rows, run_rows}
 use Rattle.rules.specs.Calls as Calls
 use Rattle.rules.specs.Calls.{resolve_coord, after_start, apply_kernel, apply_separable_kernel, gaussian_blur, box_blur, sharpen, median, sobel_gradients}
 use Rattle.rules.specs.Calls.{sobel_at, sobel, magnitude_at, gradient_magnitude, non_maximum_suppression, after_slice, slice_takes}
-use Rattle.rules.specs.Joined.{joined_count, told, closed, grown}
-use Rattle.rules.specs.Run.{blurred_of, component_of, magnitudes_of, suppressed_under, edges_of, end_of, count_of, run_edges, canny}
+use Rattle.rules.specs.Joined.{joined_count}
+use Rattle.rules.specs.Run.{edges_of, canny}
 use Rattle.rules.specs.Diagonals.{vendor_neighbours, any_diagonal, any_diagonal_in}
-use Rattle.rules.specs.Frame.{breach, frame_taps, frame_pixels, decimal_by, decimal, refused_text, edges_text, rows_text, run_text, printout}
+use Rattle.rules.specs.Frame.{breach, decimal, printout}
 use Rattle.rules.specs.declared.Size.{Size}
 use Rattle.rules.specs.declared.Kernel.{Kernel}
 use Rattle.rules.specs.declared.SeparableKernel.{SeparableKernel}
@@ -173,14 +172,10 @@ starred =
     ∷ ex (edges_of nine (between 0 0) magnitudes) (255 ∷ 255 ∷ 255 ∷ 255 ∷ 255 ∷ 255 ∷ 255 ∷ 255 ∷ 255 ∷ [])
     ∷ []
 
-pub starred_hold : Hold starred
-unfolding starred resolve_coord tabulate separable_at kernel_sum kernel_term sample_at ordered_sum to_byte add mul of_int of_bits magnitude_of root_of near_root whole_root odd sobel_byte least_from sector_of joined_count told closed grown any_below tally le edges_of end_of after_start started classed class sliced taken pop looks visit look
-starred_hold = refl
-
 -- ---- slips of the border, of sums and of bytes (01.Slips.1, 01.Slips.3)
 
 -- each border at and about both sides; a side of 2; sides of 0 and at the limit; modes by number
-abbrev borders : List Example
+abbrev pub borders : List Example
 borders =
     ex (places Zero 3 (negsuc 0) ++ (places Zero 3 (pos 0) ++ (places Zero 3 (pos 2) ++ places Zero 3 (pos 3)))) (0 ∷ 0 ∷ 0 ∷ 0 ∷ 2 ∷ 0 ∷ [])
     ∷ ex (places Clamp 3 (negsuc 1) ++ (places Clamp 3 (pos 0) ++ (places Clamp 3 (pos 1) ++ (places Clamp 3 (pos 2) ++ places Clamp 3 (pos 5)))))
@@ -191,10 +186,6 @@ borders =
     ∷ ex (places Clamp 0 (pos 0) ++ (places Clamp 640 (pos 640) ++ places Clamp 641 (pos 0))) (1 ∷ 0 ∷ 639 ∷ 1 ∷ [])
     ∷ ex (places (mode_of 0) 3 (pos 3) ++ (places (mode_of 1) 3 (pos 3) ++ (places (mode_of 2) 3 (pos 3) ++ places (mode_of 3) 3 (pos 3)))) (0 ∷ 0 ∷ 2 ∷ 0 ∷ 1 ∷ 0 ∷ 1 ∷ [])
     ∷ []
-
-borders_hold : Hold borders
-unfolding resolve_coord
-borders_hold = refl
 
 -- one pixel of 1 under Clamp, with weights that are flipped before they are met
 abbrev lone : ℕ → ℕ → List ℤ → List ℕ
@@ -214,7 +205,7 @@ abbrev rounded : List ℕ
 rounded =
     map to_byte (floats (0x3eff_ffff ∷ 0x3f00_0000 ∷ 0x437e_8000 ∷ 0xbf00_0000 ∷ 0x7f80_0000 ∷ 0x7fc0_0000 ∷ 0xff80_0000 ∷ 0x4396_0000 ∷ 0xbf80_0000 ∷ []))
 
-abbrev sums : List Example
+abbrev pub sums : List Example
 sums =
     -- weights met as 1, -1e8, 1e8: the 1 is lost in the first sum. From the other end it would be 1
     ex (lone 3 1 (pos 100000000 ∷ negsuc 99999999 ∷ pos 1 ∷ [])) (0 ∷ [])
@@ -226,10 +217,6 @@ sums =
     ∷ ex unrounded (0 ∷ [])
     ∷ ex rounded (0 ∷ 1 ∷ 255 ∷ 0 ∷ 255 ∷ 0 ∷ 0 ∷ 255 ∷ 0 ∷ [])
     ∷ []
-
-sums_hold : Hold sums
-unfolding convolved_at separable_at kernel_sum kernel_term sample_at ordered_sum to_byte add mul of_int of_bits tabulate
-sums_hold = refl
 
 -- ---- filters: a picture that is not square, weights that are not alike, every border; a filler of its own past the end of each buffer
 
@@ -243,7 +230,7 @@ separated mode =
 abbrev spread : List ℕ
 spread = 10 ∷ 200 ∷ 30 ∷ 140 ∷ 50 ∷ 60 ∷ []
 
-abbrev filters : List Example
+abbrev pub filters : List Example
 filters =
     ex (kernelled Zero) (0 ∷ 26 ∷ 56 ∷ 54 ∷ 62 ∷ 116 ∷ 96 ∷ 207 ∷ 208 ∷ [])
     ∷ ex (kernelled Clamp) (0 ∷ 72 ∷ 99 ∷ 129 ∷ 117 ∷ 144 ∷ 174 ∷ 207 ∷ 208 ∷ [])
@@ -271,10 +258,6 @@ filters =
     ∷ ex (shown (median (sides 1 1) 2 Zero (9 ∷ []) (from 201 2))) (3 ∷ 201 ∷ 202 ∷ [])
     ∷ []
 
-filters_hold : Hold filters
-unfolding apply_kernel apply_separable_kernel gaussian_blur box_blur sharpen median convolved_at separable_at median_at window_at sorted insert occurrences kernel_sum kernel_term sample_at ordered_sum to_byte add mul of_int of_bits to_bits any_below tabulate
-filters_hold = refl
-
 -- ---- gradients, roots and sectors
 
 abbrev slope : List ℕ
@@ -287,7 +270,7 @@ components mode = shown_pair (sobel_gradients (sides 3 2) mode slope (from_z 301
 abbrev roots : List ℕ → List ℕ
 roots l = patterns (map magnitude_of l)
 
-abbrev gradients : List Example
+abbrev pub gradients : List Example
 gradients =
     ex (components Zero) (0 ∷ 90 ∷ 96 ∷ 65446 ∷ 120 ∷ 117 ∷ 65416 ∷ 307 ∷ 308 ∷ 78 ∷ 174 ∷ 170 ∷ 65496 ∷ 65451 ∷ 65446 ∷ 407 ∷ [])
     ∷ ex (components Clamp) (0 ∷ 66 ∷ 121 ∷ 55 ∷ 118 ∷ 163 ∷ 45 ∷ 307 ∷ 308 ∷ 42 ∷ 89 ∷ 105 ∷ 42 ∷ 89 ∷ 105 ∷ 407 ∷ [])
@@ -312,10 +295,6 @@ gradients =
     ∷ ex (shown_floats (gradient_magnitude (sides 1 1) (pos 3 ∷ []) [] (from_f 307 1))) (2 ∷ 0x4399_8000 ∷ [])
     ∷ []
 
-gradients_hold : Hold gradients
-unfolding sobel_gradients gradient_at gradient_term sum_z sample_at sobel sobel_at sobel_byte least_from gradient_magnitude magnitude_at magnitude_of root_of near_root whole_root sector_of odd of_int of_bits to_bits tabulate
-gradients_hold = refl
-
 -- ---- suppression, 4 by 3: the inner pixel in column 2 of row 1, index 6, has magnitude 5 and a gradient; pixel 5 has none
 
 -- its value afterwards, where its neighbours i and j have the magnitude v and all others w
@@ -333,7 +312,7 @@ looked x y i j =
     let six = whole_f32 (pos 6) in
     kept x y i j (whole_f32 (pos 5)) (whole_f32 (pos 9)) ∷ kept x y i i six one ∷ kept x y j j six one ∷ kept x y i i nan one ∷ kept x y j j nan one ∷ []
 
-abbrev suppressed : List Example
+abbrev pub suppressed : List Example
 suppressed =
     ex (looked (pos 1) (pos 0) 5 7) (0x40a0_0000 ∷ 0 ∷ 0 ∷ 0 ∷ 0 ∷ [])
     ∷ ex (looked (pos 1) (pos 1) 1 11) (0x40a0_0000 ∷ 0 ∷ 0 ∷ 0 ∷ 0 ∷ [])
@@ -349,10 +328,6 @@ suppressed =
     (0 ∷ 0 ∷ 0 ∷ 0 ∷ 0 ∷ 0x40e0_0000 ∷ 0 ∷ 0 ∷ 0x40e0_0000 ∷ 0 ∷ 0 ∷ 0 ∷ 0 ∷ 0x4399_8000 ∷ [])
     ∷ ex (shown_floats (non_maximum_suppression (sides 1 1) (wholes (7 ∷ [])) (pos 1 ∷ []) [] (from_f 307 1))) (2 ∷ 0x4399_8000 ∷ [])
     ∷ []
-
-suppressed_hold : Hold suppressed
-unfolding non_maximum_suppression suppressed_at suppressed_by sector_of neighbours le of_int of_bits to_bits tabulate
-suppressed_hold = refl
 
 -- ---- walks
 
@@ -375,7 +350,7 @@ walk w h p = record { width = w; height = h; pending = p }
 abbrev bad : List ℕ → List ℕ → ℕ → ℕ
 bad marks stack pending = bit (unusable (sides 2 1) (state marks stack pending))
 
-abbrev walks : List Example
+abbrev pub walks : List Example
 walks =
     -- 2 by 2, 120 60 / 60 0: at the start, and after one and two takes. The first take looks at pixel 1 before pixel 2
     ex (begun_shown (sides 2 2) (120 ∷ 60 ∷ 60 ∷ 0 ∷ [])) (0 ∷ 2 ∷ 2 ∷ 1 ∷ 2 ∷ 1 ∷ 1 ∷ 0 ∷ 15 ∷ 16 ∷ 0 ∷ 0 ∷ 0 ∷ 0 ∷ 25 ∷ 26 ∷ 27 ∷ [])
@@ -411,10 +386,6 @@ walks =
     ∷ ex (bad (1 ∷ 2 ∷ []) (1 ∷ 1 ∷ []) 2 ∷ bad (1 ∷ 2 ∷ []) (1 ∷ 0 ∷ []) 1 ∷ bad (2 ∷ 2 ∷ 1 ∷ []) (0 ∷ 1 ∷ []) 2 ∷ []) (1 ∷ 0 ∷ 0 ∷ [])
     ∷ []
 
-walks_hold : Hold walks
-unfolding Calls.start Calls.slice Calls.map after_start after_slice slice_takes started classed class sliced takes taken pop looks visit look unusable any_below tally le lt of_int of_bits tabulate
-walks_hold = refl
-
 -- ---- the tables of refusals
 
 -- the tests by themselves
@@ -425,7 +396,7 @@ applies r = bit r.applies
 abbrev refused_by : (Thresholds → Rule) → ℕ → ℕ → ℕ
 refused_by row low high = applies (row (thresholds low high))
 
-abbrev tests : List Example
+abbrev pub tests : List Example
 tests =
     ex (map applies (side_row (sides 640 640) ∷ side_row (sides 641 0) ∷ side_row (sides 0 641) ∷ one_side_row 0 ∷ one_side_row 1 ∷ one_side_row 640 ∷ one_side_row 641 ∷ []))
     (0 ∷ 1 ∷ 1 ∷ 1 ∷ 0 ∷ 0 ∷ 1 ∷ [])
@@ -443,10 +414,6 @@ tests =
     ∷ ex (map (λ n. applies (get_or (plain_rows (sides 3 2) (zeros n) (zeros 6)) 1 (side_row (sides 0 0)))) (5 ∷ 6 ∷ 7 ∷ [])) (1 ∷ 0 ∷ 1 ∷ [])
     ∷ ex (map (λ n. applies (get_or (plain_rows (sides 3 2) (zeros 6) (zeros n)) 2 (side_row (sides 0 0)))) (5 ∷ 6 ∷ 7 ∷ [])) (1 ∷ 0 ∷ 0 ∷ [])
     ∷ []
-
-tests_hold : Hold tests
-unfolding any_below lt of_int of_bits tabulate
-tests_hold = refl
 
 -- A call's table, told by calls in which chosen subjects are wrong: in `table w`, subject k where w k is true. Shown are the rows' numbers;
 -- for each row, which rows apply where its subject alone is wrong; and for each row the number where its subject and the next row's are.
@@ -560,7 +527,7 @@ module _ (w : ℕ → Bool) where
       } in
       run_rows size (input 0 size (w 1)) (given (counted (w 2)) false (w 3)) (pair (w 4) (w 5)) s (room 0 size (w 13))
 
-abbrev tables : List Example
+abbrev pub tables : List Example
 tables =
     ex (table_of kernel_table) (in_order (1 ∷ 2 ∷ 3 ∷ 3 ∷ 3 ∷ 4 ∷ 7 ∷ []))
     ∷ ex (table_of separable_table) (in_order (1 ∷ 2 ∷ 3 ∷ 3 ∷ 3 ∷ 3 ∷ 4 ∷ 4 ∷ 7 ∷ 7 ∷ []))
@@ -576,10 +543,6 @@ tables =
     ∷ ex (table_of map_table) (in_order (1 ∷ 7 ∷ 7 ∷ 7 ∷ 9 ∷ 10 ∷ []))
     ∷ ex (table_of run_table) (in_order (1 ∷ 2 ∷ 3 ∷ 4 ∷ 5 ∷ 6 ∷ 7 ∷ 7 ∷ 7 ∷ 7 ∷ 7 ∷ 7 ∷ 7 ∷ 7 ∷ []))
     ∷ []
-
-tables_hold : Hold tables
-unfolding unusable any_below tally lt of_int of_bits tabulate
-tables_hold = refl
 
 -- ---- a whole run, 5 by 3, with a filler of its own past the end of each buffer
 
@@ -615,7 +578,7 @@ ran n m t =
 abbrev wiped : ℕ → List ℕ
 wiped past = zeros 15 ++ (past ∷ [])
 
-abbrev runs : List Example
+abbrev pub runs : List Example
 runs =
     ex (ran 16 17 (between 40 100))
     (flat (
@@ -625,10 +588,6 @@ runs =
     ∷ ex (ran 2 1 (between 100 40))
     (6 ∷ 0 ∷ 201 ∷ 0x4396_8000 ∷ 0x4397_0000 ∷ 0x43c8_8000 ∷ 0x43c9_0000 ∷ 501 ∷ 502 ∷ 601 ∷ 602 ∷ 101 ∷ 102 ∷ 151 ∷ 152 ∷ 701 ∷ 702 ∷ [])
     ∷ []
-
-runs_hold : Hold runs
-unfolding blurred_of component_of magnitudes_of suppressed_under suppressed_by edges_of end_of count_of run_edges canny separable_at kernel_sum kernel_term sample_at ordered_sum to_byte add mul of_int of_bits gradient_at gradient_term sum_z magnitude_at magnitude_of root_of near_root whole_root odd sector_of neighbours after_start started classed class sliced taken pop looks visit look le lt any_below tally tabulate to_bits
-runs_hold = refl
 
 -- ---- the diagonals (02.2): both tables' rows, and where a diagonal gradient counts
 
@@ -645,7 +604,7 @@ step = 0 ∷ 0 ∷ 50 ∷ 50 ∷ 50 ∷ 0 ∷ 0 ∷ 50 ∷ 50 ∷ 50 ∷ 0 ∷ 0
 abbrev diagonal : ℕ → ℤ → ℤ → ℕ
 diagonal i x y = bit (any_diagonal (sides 4 3) (tabulate 12 (λ k. cond (eqb k i) x (pos 0))) (tabulate 12 (λ k. cond (eqb k i) y (pos 0))))
 
-abbrev diagonals : List Example
+abbrev pub diagonals : List Example
 diagonals =
     ex (steps neighbours 0 ++ (steps neighbours 45 ++ (steps neighbours 90 ++ steps neighbours 135)))
     (65535 ∷ 0 ∷ 1 ∷ 0 ∷ 65535 ∷ 65535 ∷ 1 ∷ 1 ∷ 0 ∷ 65535 ∷ 0 ∷ 1 ∷ 1 ∷ 65535 ∷ 65535 ∷ 1 ∷ [])
@@ -658,10 +617,6 @@ diagonals =
     -- 01's frame has none, so that it keeps its bytes (02.2.5); the run above has
     ∷ ex (bit (any_diagonal_in (sides 5 4) step (wholes (1 ∷ []))) ∷ bit (any_diagonal_in (sides 5 3) card (floats quarters)) ∷ []) (0 ∷ 1 ∷ [])
     ∷ []
-
-diagonals_hold : Hold diagonals
-unfolding neighbours vendor_neighbours any_diagonal any_diagonal_in sector_of blurred_of component_of separable_at kernel_sum kernel_term sample_at ordered_sum to_byte add mul of_int of_bits gradient_at gradient_term sum_z odd le lt any_below tabulate
-diagonals_hold = refl
 
 -- ---- frame files
 
@@ -691,7 +646,7 @@ blank (suc n) = 0 ∷ blank n
 abbrev empty : List ℕ → ℕ → ℕ
 empty h n = bit (breach (file_of h [] (blank n)))
 
-abbrev frames : List Example
+abbrev pub frames : List Example
 frames =
     -- what 01 says it prints (01.Frame.8, 01.Frame.9)
     ex (printout (framed header))
@@ -722,10 +677,6 @@ frames =
     ∷ ex (decimal 0 ++ (decimal 9 ++ (decimal 10 ++ decimal 2304))) (48 ∷ 57 ∷ 49 ∷ 48 ∷ 50 ∷ 51 ∷ 48 ∷ 52 ∷ [])
     ∷ []
 
-frames_hold : Hold frames
-unfolding blurred_of component_of magnitudes_of suppressed_under suppressed_by edges_of end_of count_of run_edges canny separable_at kernel_sum kernel_term sample_at ordered_sum to_byte add mul of_int of_bits gradient_at gradient_term sum_z magnitude_at magnitude_of root_of near_root whole_root odd sector_of neighbours after_start started classed class sliced taken pop looks visit look le lt any_below tally tabulate breach frame_taps frame_pixels decimal_by decimal refused_text edges_text rows_text run_text printout
-frames_hold = refl
-
 -- ---- THE LIST OF SLIPS, by subject
 
 unfoldable pub slips : List (List Example)
@@ -734,10 +685,3 @@ slips = borders ∷ sums ∷ filters ∷ gradients ∷ suppressed ∷ walks ∷ 
 abbrev pub Every : List (List Example) → Type 0
 Every [] = Unit
 Every (l ∷ ls) = Hold l × Every ls
-
-pub slips_hold : Every slips
-unfolding slips
-slips_hold = (
-  borders_hold,
-  (sums_hold, (filters_hold, (gradients_hold, (suppressed_hold, (walks_hold, (tests_hold, (tables_hold, (runs_hold, (diagonals_hold, (frames_hold, tt)))))))))),
-)

@@ -3,7 +3,6 @@
 -- a map's pixels is stated by (`Way d on q r`: q and r are of one group), with the laws in proofs/Paths.
 use Rattle.std.specs.Prelude.{ℕ, zero, suc, ◌+◌, ◌/◌, ◌%◌, ◌≤◌, ◌<◌, Bool, false, ◌&&◌, ◌||◌, List, T, leb, get_or}
 use Rattle.rules.specs.Picture.{area, tabulate, any_below, tally}
-use Rattle.rules.specs.Calls as Calls
 use Rattle.rules.specs.declared.Size.{Size}
 
 -- ---- paths

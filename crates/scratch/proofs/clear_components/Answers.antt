@@ -1,10 +1,7 @@
 -- `clear_components` meets its contract: a filling loop, no longer than the buffer. Assumes nothing.
-use borrow.Author.Rules.{rules}
 use native.Mathlib.Omega.{arith}
-use Prim.Native.Nat.{◌-◌}
 use mathlib.Core.Path.{refl}
-use lib.IntN.{pos}
-use Rattle.rules.proofs.Fill.{Filling, filling_start, filling_more, filling_end}
+use Rattle.rules.proofs.Fill.{filling_start, filling_more, filling_end}
 use Rattle.scratch.proofs.clear_components.Goals as goal
 
 pub loop-i-init : goal.loop-i-init

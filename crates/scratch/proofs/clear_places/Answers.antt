@@ -1,9 +1,7 @@
 -- `clear_places` meets its contract: a filling loop, no longer than the buffer. Assumes nothing.
-use borrow.Author.Rules.{rules}
 use native.Mathlib.Omega.{arith}
-use Prim.Native.Nat.{◌-◌}
 use mathlib.Core.Path.{refl}
-use Rattle.rules.proofs.Fill.{Filling, filling_start, filling_more, filling_end}
+use Rattle.rules.proofs.Fill.{filling_start, filling_more, filling_end}
 use Rattle.scratch.proofs.clear_places.Goals as goal
 
 pub loop-i-init : goal.loop-i-init

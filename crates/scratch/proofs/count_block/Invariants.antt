@@ -1,12 +1,7 @@
 -- `count_block` meets its contract: what it has found is what was counted since a. Assumes nothing.
-use borrow.Author.Rules.{rules}
-use borrow.Author.Tests.{eq-eqb, ne_eqb}
-use native.Mathlib.Omega.{arith}
 use Prim.Native.Nat.{◌+◌, ◌-◌, ◌≤◌}
-use mathlib.Core.Path.{◌≡◌, refl}
-use mathlib.Core.Logic.{⊎_elim}
-use Rattle.rules.specs.Walk.{has, count}
-use Rattle.rules.proofs.Tallies.{tally_yes, tally_no}
+use mathlib.Core.Path.{◌≡◌}
+use Rattle.rules.specs.Walk.{count}
 use Rattle.scratch.proofs.count_block.Given as goal
 
 abbrev pub invariant-loop-i : goal.invariant-loop-i

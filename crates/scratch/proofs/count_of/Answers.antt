@@ -1,13 +1,11 @@
 -- `count_of` meets its contract, block by block. Assumes nothing.
 use borrow.Author.Rules.{rules}
 use native.Mathlib.Omega.{arith}
-use Prim.Native.Nat.{◌-◌, ◌≤◌}
 use mathlib.Core.Path.{◌≡◌, ◌∙◌, ap}
 use Rattle.rules.specs.Picture.{tally}
-use Rattle.rules.specs.Walk.{has, count}
+use Rattle.rules.specs.Walk.{has}
 use Rattle.rules.proofs.Tallies.{tally_all}
 use Rattle.scratch.proofs.count_of.Goals as goal
-
 
 pub loop-a-init : goal.loop-a-init
 unfolding tally

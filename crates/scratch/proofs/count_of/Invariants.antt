@@ -1,11 +1,7 @@
 -- `count_of` meets its contract, block by block. Assumes nothing.
-use borrow.Author.Rules.{rules}
-use native.Mathlib.Omega.{arith}
 use Prim.Native.Nat.{◌-◌, ◌≤◌}
-use mathlib.Core.Path.{◌≡◌, ◌∙◌, ap}
-use Rattle.rules.specs.Picture.{tally}
-use Rattle.rules.specs.Walk.{has, count}
-use Rattle.rules.proofs.Tallies.{tally_all}
+use mathlib.Core.Path.{◌≡◌}
+use Rattle.rules.specs.Walk.{count}
 use Rattle.scratch.proofs.count_of.Given as goal
 
 abbrev pub invariant-loop-a : goal.invariant-loop-a

@@ -1,5 +1,4 @@
 -- `clamp_at` meets its contract, by the sign of c and one test. Assumes nothing.
-use borrow.Author.Rules.{rules}
 use Rattle.rules.proofs.Signed.{cast_natural, natural_of}
 use Rattle.border.proofs.Resolving.{clamp_below, clamp_in, clamp_out}
 use Rattle.border.proofs.coord.clamp_at.Goals as goal

@@ -1,5 +1,4 @@
 -- `place` meets its contract, case by case of what `resolve_coord` says. Assumes nothing.
-use borrow.Author.Rules.{rules}
 use native.Mathlib.Omega.{arith}
 use Rattle.rules.proofs.Signed.{diff_fits}
 use Rattle.border.proofs.Reading.{place_case}

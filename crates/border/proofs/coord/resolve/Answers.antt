@@ -2,7 +2,6 @@
 use mathlib.Core.Path.{ap}
 use mir.Syntax.{w64}
 use mir.ValLaws.{to_z-of_z}
-use borrow.Author.Rules.{rules}
 use Rattle.rules.specs.declared.Coord.TheVariants.{At}
 use Rattle.border.proofs.coord.resolve.Goals as goal
 

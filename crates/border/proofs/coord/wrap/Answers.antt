@@ -3,7 +3,6 @@ use mathlib.Core.Path.{ap}
 use native.Mathlib.Omega.{arith}
 use Prim.Native.Nat.{◌<◌, ◌^◌}
 use lib.IntN.{nat_abs}
-use borrow.Author.Rules.{rules}
 use Rattle.rules.proofs.Signed.{cast_of, rem_fits, rem_small, rem_is, sum_fits, sum_read}
 use Rattle.border.proofs.coord.wrap.Goals as goal
 

@@ -1,5 +1,4 @@
 -- `read` meets its contract: a picture that is refused, no column, no row, or the pixel. Assumes nothing.
-use borrow.Author.Rules.{rules}
 use native.Mathlib.Omega.{arith}
 use Prim.Native.Nat.{◌+◌, ◌*◌, ◌<◌, ◌≤◌}
 use borrow.Author.Tests.{lt-ltb, le-ltb, ne_eqb}

@@ -7,7 +7,7 @@ use lib.Dec.{ltb}
 use lib.ListN.{length}
 use lib.Ieee.{Float}
 use Rattle.rules.specs.Picture.{area}
-use Rattle.rules.specs.Refusals.{room_row, Scratch, first, run_front, scratch, scratch_rows, run_rows}
+use Rattle.rules.specs.Refusals.{Scratch, first, run_front, scratch, scratch_rows, run_rows}
 use Rattle.rules.specs.declared.Size.{Size}
 use Rattle.rules.specs.declared.Thresholds.{Thresholds}
 use Rattle.rules.proofs.Rows.{off, front_refuses, front_passes, input_off, joined}

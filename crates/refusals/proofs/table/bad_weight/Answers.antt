@@ -1,7 +1,6 @@
 -- `bad_weight` meets its contract: a search that stops at the first one found. Assumes nothing.
 use borrow.Author.Rules.{rules}
 use native.Mathlib.Omega.{arith}
-use Prim.Native.Nat.{◌≤◌, ◌-◌}
 use mathlib.Core.Path.{◌≡◌, refl, sym, ap, ◌∙◌}
 use mathlib.Core.Bool.{false, not}
 use lib.ListN.{length, get_or}

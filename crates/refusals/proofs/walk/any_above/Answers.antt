@@ -1,10 +1,7 @@
 -- `any_above` is the definition's test: its answer so far, mark by mark. Assumes nothing.
 use borrow.Author.Rules.{rules}
 use native.Mathlib.Omega.{arith}
-use Prim.Native.Nat.{◌-◌, ◌≤◌}
-use mathlib.Core.Path.{◌≡◌, refl, ap, ◌∙◌}
-use lib.Dec.{ltb}
-use lib.ListN.{get_or}
+use mathlib.Core.Path.{refl, ap, ◌∙◌}
 use Rattle.rules.specs.Picture.{any_below}
 use Rattle.rules.proofs.Tests.{any_more}
 use Rattle.refusals.proofs.walk.any_above.Goals as goal

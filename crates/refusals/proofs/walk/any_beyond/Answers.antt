@@ -2,11 +2,7 @@
 use borrow.Author.Rules.{rules}
 use borrow.Author.Tests.{le-leb, lt-leb}
 use native.Mathlib.Omega.{arith}
-use Prim.Native.Nat.{◌-◌, ◌≤◌}
-use mathlib.Core.Path.{◌≡◌, refl, sym, ap, ◌∙◌}
-use mathlib.Core.Bool.{false}
-use lib.Dec.{leb}
-use lib.ListN.{get_or}
+use mathlib.Core.Path.{refl, sym, ap, ◌∙◌}
 use Rattle.rules.specs.Picture.{any_below}
 use Rattle.rules.proofs.Tests.{any_more, some_any}
 use Rattle.refusals.proofs.walk.any_beyond.Goals as goal
