@@ -15,8 +15,7 @@ use pixel::byte::sobel_byte;
 use rules::codes::mode_of;
 use rules::{ACCEPTED, Coord, Kernel, REFUSED_SIDE, SeparableKernel, Size};
 
-#[unsafe(no_mangle)]
-pub extern "C" fn kelontsira_resolve_coord(
+pub fn kelontsira_resolve_coord(
     coord: i64,
     side: usize,
     border: u8,
@@ -41,8 +40,7 @@ pub extern "C" fn kelontsira_resolve_coord(
     }
 }
 
-#[unsafe(no_mangle)]
-pub extern "C" fn kelontsira_apply_kernel(
+pub fn kelontsira_apply_kernel(
     pixels: &[u8],
     width: usize,
     height: usize,
@@ -73,8 +71,7 @@ pub extern "C" fn kelontsira_apply_kernel(
     )
 }
 
-#[unsafe(no_mangle)]
-pub extern "C" fn kelontsira_apply_separable_kernel(
+pub fn kelontsira_apply_separable_kernel(
     pixels: &[u8],
     width: usize,
     height: usize,
@@ -110,8 +107,7 @@ pub extern "C" fn kelontsira_apply_separable_kernel(
     )
 }
 
-#[unsafe(no_mangle)]
-pub extern "C" fn kelontsira_gaussian_blur(
+pub fn kelontsira_gaussian_blur(
     pixels: &[u8],
     width: usize,
     height: usize,
@@ -137,8 +133,7 @@ pub extern "C" fn kelontsira_gaussian_blur(
     )
 }
 
-#[unsafe(no_mangle)]
-pub extern "C" fn kelontsira_box_blur(
+pub fn kelontsira_box_blur(
     pixels: &[u8],
     width: usize,
     height: usize,
@@ -159,8 +154,7 @@ pub extern "C" fn kelontsira_box_blur(
     filter.apply(pixels, Size { width, height }, work, out)
 }
 
-#[unsafe(no_mangle)]
-pub extern "C" fn kelontsira_sharpen(
+pub fn kelontsira_sharpen(
     pixels: &[u8],
     width: usize,
     height: usize,
@@ -179,8 +173,7 @@ pub extern "C" fn kelontsira_sharpen(
     filter.apply(pixels, Size { width, height }, out)
 }
 
-#[unsafe(no_mangle)]
-pub extern "C" fn kelontsira_median(
+pub fn kelontsira_median(
     pixels: &[u8],
     width: usize,
     height: usize,
@@ -201,8 +194,7 @@ pub extern "C" fn kelontsira_median(
     filter.apply(pixels, Size { width, height }, out)
 }
 
-#[unsafe(no_mangle)]
-pub extern "C" fn kelontsira_sobel(
+pub fn kelontsira_sobel(
     pixels: &[u8],
     width: usize,
     height: usize,
@@ -221,8 +213,7 @@ pub extern "C" fn kelontsira_sobel(
     filter.apply(pixels, Size { width, height }, out)
 }
 
-#[unsafe(no_mangle)]
-pub extern "C" fn kelontsira_sobel_byte(s: u32) -> u8
+pub fn kelontsira_sobel_byte(s: u32) -> u8
     ensures { result ≡ sobel_byte s }
 {
     sobel_byte(s)

@@ -14,8 +14,7 @@ use pixel::sector::sector;
 use rules::Size;
 use rules::codes::mode_of;
 
-#[unsafe(no_mangle)]
-pub extern "C" fn kelontsira_sobel_gradients(
+pub fn kelontsira_sobel_gradients(
     pixels: &[u8],
     width: usize,
     height: usize,
@@ -33,22 +32,19 @@ pub extern "C" fn kelontsira_sobel_gradients(
     sobel_gradients(pixels, Size { width, height }, mode_of(border), gx, gy)
 }
 
-#[unsafe(no_mangle)]
-pub extern "C" fn kelontsira_sector(gx: i16, gy: i16) -> u8
+pub fn kelontsira_sector(gx: i16, gy: i16) -> u8
     ensures { result ≡ sector_of gx gy }
 {
     sector(gx, gy)
 }
 
-#[unsafe(no_mangle)]
-pub extern "C" fn kelontsira_magnitude_of(s: u32) -> f32
+pub fn kelontsira_magnitude_of(s: u32) -> f32
     ensures { result ≡ magnitude_of s }
 {
     magnitude_of(s)
 }
 
-#[unsafe(no_mangle)]
-pub extern "C" fn kelontsira_gradient_magnitude(
+pub fn kelontsira_gradient_magnitude(
     gx: &[i16],
     gy: &[i16],
     width: usize,
@@ -61,8 +57,7 @@ pub extern "C" fn kelontsira_gradient_magnitude(
     gradient_magnitude(gx, gy, Size { width, height }, magnitude)
 }
 
-#[unsafe(no_mangle)]
-pub extern "C" fn kelontsira_non_maximum_suppression(
+pub fn kelontsira_non_maximum_suppression(
     magnitude: &[f32],
     gx: &[i16],
     gy: &[i16],

@@ -1,5 +1,7 @@
-// The library for C and Rust: each public call of the stages as one C function of numbers and slices. include/kelontsira.h declares them;
-// a slice is a pointer and a length there. Nothing is worked out here: each export equals the call it wraps.
+// The library for C and Rust: each public call of the stages as one function of numbers and slices. The crate kelontsira_c exports them and
+// include/kelontsira.h declares them; a slice is a pointer and a length there. Nothing is worked out here: each equals the call it wraps.
+#![tactic(auto)]
+
 mod border;
 pub mod filtering;
 pub mod gradients;

@@ -18,8 +18,7 @@ fn tell(counted: Counted, count: &mut usize) -> u8
     ACCEPTED
 }
 
-#[unsafe(no_mangle)]
-pub extern "C" fn kelontsira_canny(
+pub fn kelontsira_canny(
     pixels: &[u8],
     width: usize,
     height: usize,

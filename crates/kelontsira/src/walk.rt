@@ -6,8 +6,7 @@ ghost use Rattle.kelontsira.specs.Exports.{sides, between, walk_of, start_says, 
 use hysteresis::{map, slice, start};
 use rules::{ACCEPTED, Size, Thresholds, Walk};
 
-#[unsafe(no_mangle)]
-pub extern "C" fn kelontsira_start(
+pub fn kelontsira_start(
     magnitudes: &[f32],
     width: usize,
     height: usize,
@@ -39,8 +38,7 @@ pub extern "C" fn kelontsira_start(
     ACCEPTED
 }
 
-#[unsafe(no_mangle)]
-pub extern "C" fn kelontsira_slice(
+pub fn kelontsira_slice(
     wide: &mut usize,
     tall: &mut usize,
     pending: &mut usize,
@@ -69,8 +67,7 @@ pub extern "C" fn kelontsira_slice(
     ACCEPTED
 }
 
-#[unsafe(no_mangle)]
-pub extern "C" fn kelontsira_map(
+pub fn kelontsira_map(
     wide: usize,
     tall: usize,
     pending: usize,

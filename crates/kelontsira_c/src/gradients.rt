@@ -1,0 +1,65 @@
+// Gradient, sector, magnitude and suppression for C.
+ghost use Rattle.std.specs.Prelude.{◌≡◌};
+ghost use Rattle.rules.specs.Calls as Calls;
+ghost use Rattle.rules.specs.Root.{magnitude_of};
+ghost use Rattle.rules.specs.Sector.{sector_of};
+ghost use Rattle.kelontsira.specs.Exports.{sides, bordered};
+
+#[unsafe(no_mangle)]
+pub extern "C" fn kelontsira_sobel_gradients(
+    pixels: &[u8],
+    width: usize,
+    height: usize,
+    border: u8,
+    gx: &mut [i16],
+    gy: &mut [i16],
+) -> u8
+    ensures { (result, (gx.new, gy.new))
+        ≡ bordered border (gx.old, gy.old)
+        (λ b. Calls.sobel_gradients (sides width height) b pixels.now gx.old gy.old) }
+{
+    kelontsira::gradients::kelontsira_sobel_gradients(pixels, width, height, border, gx, gy)
+}
+
+#[unsafe(no_mangle)]
+pub extern "C" fn kelontsira_sector(gx: i16, gy: i16) -> u8
+    ensures { result ≡ sector_of gx gy }
+{
+    kelontsira::gradients::kelontsira_sector(gx, gy)
+}
+
+#[unsafe(no_mangle)]
+pub extern "C" fn kelontsira_magnitude_of(s: u32) -> f32
+    ensures { result ≡ magnitude_of s }
+{
+    kelontsira::gradients::kelontsira_magnitude_of(s)
+}
+
+#[unsafe(no_mangle)]
+pub extern "C" fn kelontsira_gradient_magnitude(
+    gx: &[i16],
+    gy: &[i16],
+    width: usize,
+    height: usize,
+    magnitude: &mut [f32],
+) -> u8
+    ensures { (result, magnitude.new)
+        ≡ Calls.gradient_magnitude (sides width height) gx.now gy.now magnitude.old }
+{
+    kelontsira::gradients::kelontsira_gradient_magnitude(gx, gy, width, height, magnitude)
+}
+
+#[unsafe(no_mangle)]
+pub extern "C" fn kelontsira_non_maximum_suppression(
+    magnitude: &[f32],
+    gx: &[i16],
+    gy: &[i16],
+    width: usize,
+    height: usize,
+    out: &mut [f32],
+) -> u8
+    ensures { (result, out.new)
+        ≡ Calls.non_maximum_suppression (sides width height) magnitude.now gx.now gy.now out.old }
+{
+    kelontsira::gradients::kelontsira_non_maximum_suppression(magnitude, gx, gy, width, height, out)
+}
