@@ -1,11 +1,7 @@
 -- `fill_map` fills with the map. Assumes nothing.
-use borrow.Author.Rules.{rules}
 use borrow.Author.Tests.{eq-eqb, ne_eqb}
 use native.Mathlib.Omega.{arith}
-use Prim.Native.Nat.{◌-◌}
-use lib.ListN.{get_or}
-use Rattle.rules.specs.Walk.{edge}
-use Rattle.rules.proofs.Fill.{Filling, filling_start, filling_more, filling_end}
+use Rattle.rules.proofs.Fill.{filling_start, filling_more, filling_end}
 use Rattle.hysteresis.proofs.fill_map.Goals as goal
 use Rattle.hysteresis.proofs.fill_map.Goals.{then-marks-i-eq-MARK_FINISHED, else-marks-i-eq-MARK_FINISHED}
 

@@ -1,10 +1,6 @@
 -- `mark_all` meets its contract: a filling loop. Assumes nothing.
-use borrow.Author.Rules.{rules}
 use native.Mathlib.Omega.{arith}
-use Prim.Native.Nat.{◌-◌}
-use Rattle.rules.specs.Walk.{at_least}
-use Rattle.rules.proofs.Fill.{Filling, filling_start, filling_more, filling_end}
-use Rattle.hysteresis.specs.Split.{mark_of}
+use Rattle.rules.proofs.Fill.{filling_start, filling_more, filling_end}
 use Rattle.hysteresis.proofs.classes.mark_all.Goals as goal
 
 pub loop-i-init : goal.loop-i-init

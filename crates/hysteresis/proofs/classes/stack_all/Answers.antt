@@ -2,10 +2,7 @@
 use borrow.Author.Rules.{rules}
 use native.Mathlib.Omega.{arith}
 use native.Mathlib.Numerals.{add-one}
-use Prim.Native.Nat.{◌-◌, ◌≤◌}
 use mathlib.Core.Path.{◌≡◌, ap, ◌∙◌}
-use lib.ListN.{length}
-use Rattle.rules.specs.Walk.{has}
 use Rattle.hysteresis.specs.Split.{put, stacked}
 use Rattle.hysteresis.proofs.Classing.{few_stacked}
 use Rattle.hysteresis.proofs.classes.stack_all.Goals as goal

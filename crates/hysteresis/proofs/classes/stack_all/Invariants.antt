@@ -1,13 +1,9 @@
 -- `stack_all` meets its contract: pixel after pixel, and no more are pending than were looked at. Assumes nothing.
-use borrow.Author.Rules.{rules}
-use native.Mathlib.Omega.{arith}
-use native.Mathlib.Numerals.{add-one}
 use Prim.Native.Nat.{◌-◌, ◌≤◌}
-use mathlib.Core.Path.{◌≡◌, ap, ◌∙◌}
+use mathlib.Core.Path.{◌≡◌}
 use lib.ListN.{length}
 use Rattle.rules.specs.Walk.{has}
-use Rattle.hysteresis.specs.Split.{put, stacked}
-use Rattle.hysteresis.proofs.Classing.{few_stacked}
+use Rattle.hysteresis.specs.Split.{stacked}
 use Rattle.hysteresis.proofs.classes.stack_all.Given as goal
 
 abbrev pub invariant-loop-i : goal.invariant-loop-i

@@ -1,5 +1,4 @@
 -- `stack_one` meets its contract, test by test. Assumes nothing.
-use borrow.Author.Rules.{rules}
 use borrow.Author.Tests.{eq-eqb, ne_eqb}
 use Rattle.hysteresis.specs.Split.{put}
 use Rattle.hysteresis.proofs.classes.stack_one.Goals as goal

@@ -1,11 +1,9 @@
 -- `take_until` is the definition's slice, with its count of takes. Assumes nothing.
-use borrow.Author.Rules.{rules}
-use native.Mathlib.Omega.{arith}
 use Prim.Native.Nat.{◌-◌}
-use mathlib.Core.Path.{◌≡◌, refl, ◌∙◌}
+use mathlib.Core.Path.{◌≡◌}
 use lib.ListN.{length}
 use Rattle.rules.specs.Walk.{state}
-use Rattle.hysteresis.proofs.Going.{Going, going_none, going_more, going_spent, going_ended}
+use Rattle.hysteresis.proofs.Going.{Going}
 use Rattle.hysteresis.proofs.takes.take_until.Given as goal
 
 abbrev pub invariant-loop-done : goal.invariant-loop-done

@@ -1,5 +1,4 @@
 -- `visit_at` is the definition's visit. Assumes nothing.
-use borrow.Author.Rules.{rules}
 use native.Mathlib.Omega.{arith}
 use mathlib.Core.Path.{sym, ◌∙◌}
 use Rattle.hysteresis.proofs.Places.{Within, place_in_lem}
