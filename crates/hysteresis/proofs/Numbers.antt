@@ -4,7 +4,7 @@ use mathlib.Core.Path.{◌≡◌}
 use mathlib.Core.Bool.{false}
 use mathlib.Core.List.{List}
 use lib.Dec.{leb, ltb}
-use lib.ListN.{length, get_or}
+use lib.ListN.{get_or}
 use lib.Ieee.{Float, lt}
 use borrow.Author.Tests.{ltb-false, leb-false, lt-leb, le-ltb}
 use Rattle.rules.specs.Accepted.{Sides, Input, Room}

@@ -1,5 +1,7 @@
 // The walk of canny.rs, which joins weak pixels to strong ones: its start, slices of a budget, and the map. The state travels by value; the
 // marks and the stack are lent beside it (01.Walk).
+#![tactic(auto)]
+
 mod classes;
 mod takes;
 
