@@ -1,11 +1,9 @@
 -- `quantize_row` meets its contract: a filling loop. Assumes nothing.
-use borrow.Author.Rules.{rules}
-use native.Mathlib.Omega.{arith}
 use Prim.Native.Nat.{◌-◌}
 use lib.ListN.{get_or}
 use lib.Ieee.{nan}
 use Rattle.rules.specs.Sums.{to_byte}
-use Rattle.rules.proofs.Fill.{Filling, filling_start, filling_more, filling_end}
+use Rattle.rules.proofs.Fill.{Filling}
 use Rattle.filters.proofs.byte.quantize_row.Given as goal
 
 abbrev pub invariant-loop-i : goal.invariant-loop-i

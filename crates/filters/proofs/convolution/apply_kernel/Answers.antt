@@ -6,7 +6,6 @@ use Rattle.rules.proofs.Answers.{refused_is, accepted_is}
 use Rattle.filters.proofs.Convolving.{kernel_pass}
 use Rattle.filters.proofs.convolution.apply_kernel.Goals as goal
 
--- LOOK: 7 answers for 5 goals
 pub returns-then-refusal-ne-ACCEPTED : goal.returns-then-refusal-ne-ACCEPTED
 unfolding apply_kernel
 returns-then-refusal-ne-ACCEPTED c = refused_is _ _ c.of_kernel-refusal.ensures _ _ c.if-refusal-ne-ACCEPTED.true

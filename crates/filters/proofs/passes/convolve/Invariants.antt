@@ -1,14 +1,10 @@
 -- `convolve` meets its contract: run after run, summed and turned to bytes. Assumes nothing.
-use borrow.Author.Rules.{rules}
-use native.Mathlib.Nat.{mul-le-mul}
-use native.Mathlib.Omega.{arith}
 use Prim.Native.Nat.{◌-◌}
-use mathlib.Core.Path.{◌≡◌, refl}
+use mathlib.Core.Path.{◌≡◌}
 use lib.ListN.{length}
 use Rattle.rules.specs.Picture.{area, by_pixel}
-use Rattle.rules.specs.Filters.{kernel_sum, convolved_at}
-use Rattle.rules.proofs.Fill.{Filling, filling_start, filling_end}
-use Rattle.filters.proofs.Passing.{RunAt, run_at, Run, run_of, run_room, byte_run, byte_block}
+use Rattle.rules.specs.Filters.{convolved_at}
+use Rattle.rules.proofs.Fill.{Filling}
 use Rattle.filters.proofs.passes.convolve.Given as goal
 
 abbrev pub invariant-loop-at : goal.invariant-loop-at

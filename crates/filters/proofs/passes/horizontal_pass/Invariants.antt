@@ -1,13 +1,9 @@
 -- `horizontal_pass` meets its contract: run after run, each to the end of its row. Assumes nothing.
-use borrow.Author.Rules.{rules}
-use native.Mathlib.Nat.{mul-le-mul}
-use native.Mathlib.Omega.{arith}
-use Prim.Native.Nat.{◌-◌, ◌%◌}
+use Prim.Native.Nat.{◌-◌}
 use lib.ListN.{length}
 use Rattle.rules.specs.Picture.{area, by_pixel}
-use Rattle.rules.specs.Filters.{of_bytes, kernel_sum, horizontal_at}
-use Rattle.rules.proofs.Fill.{Filling, filling_start, filling_end}
-use Rattle.filters.proofs.Passing.{run_at, Run, run_of, run_more, run_room, byte_block}
+use Rattle.rules.specs.Filters.{of_bytes, horizontal_at}
+use Rattle.rules.proofs.Fill.{Filling}
 use Rattle.filters.proofs.passes.horizontal_pass.Given as goal
 
 abbrev pub invariant-loop-at : goal.invariant-loop-at

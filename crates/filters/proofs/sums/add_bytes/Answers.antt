@@ -1,15 +1,10 @@
 -- `add_bytes` meets its contract: a filling loop over sums and samples in step. Assumes nothing.
-use borrow.Author.Rules.{rules}
 use native.Mathlib.Omega.{arith}
-use Prim.Native.Nat.{◌-◌}
 use mathlib.Core.Path.{refl}
-use Rattle.rules.specs.Filters.{of_bytes}
-use Rattle.rules.proofs.Fill.{Filling, filling_start, filling_end}
-use Rattle.filters.specs.Blocks.{added}
+use Rattle.rules.proofs.Fill.{filling_start, filling_end}
 use Rattle.filters.proofs.Taps.{adding_more}
 use Rattle.filters.proofs.sums.add_bytes.Goals as goal
 
--- LOOK: 12 answers for 11 goals
 pub loop-i-init : goal.loop-i-init
 loop-i-init c = filling_start
 

@@ -1,13 +1,9 @@
 -- `add_edges` meets its contract: a filling loop whose samples are worked out one by one. Assumes nothing.
-use borrow.Author.Rules.{rules}
 use native.Mathlib.Omega.{arith}
-use Prim.Native.Nat.{◌+◌, ◌-◌}
-use Rattle.rules.proofs.Fill.{Filling, filling_start, filling_end}
-use Rattle.filters.specs.Blocks.{added, row_at}
+use Rattle.rules.proofs.Fill.{filling_start, filling_end}
 use Rattle.filters.proofs.Taps.{adding_more}
 use Rattle.filters.proofs.sums.add_edges.Goals as goal
 
--- LOOK: 12 answers for 11 goals
 pub loop-i-init : goal.loop-i-init
 loop-i-init c = filling_start
 

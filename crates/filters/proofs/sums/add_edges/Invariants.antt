@@ -1,10 +1,7 @@
 -- `add_edges` meets its contract: a filling loop whose samples are worked out one by one. Assumes nothing.
-use borrow.Author.Rules.{rules}
-use native.Mathlib.Omega.{arith}
 use Prim.Native.Nat.{◌+◌, ◌-◌}
-use Rattle.rules.proofs.Fill.{Filling, filling_start, filling_end}
+use Rattle.rules.proofs.Fill.{Filling}
 use Rattle.filters.specs.Blocks.{added, row_at}
-use Rattle.filters.proofs.Taps.{adding_more}
 use Rattle.filters.proofs.sums.add_edges.Given as goal
 
 abbrev pub invariant-loop-i : goal.invariant-loop-i

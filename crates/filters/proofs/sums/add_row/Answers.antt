@@ -1,9 +1,7 @@
 -- `add_row` meets its contract: three parts, before the row, in it and after it. Assumes nothing.
-use borrow.Author.Rules.{rules}
 use Rattle.filters.proofs.Taps.{three_parts}
 use Rattle.filters.proofs.sums.add_row.Goals as goal
 
--- LOOK: 25 answers for 24 goals
 pub returns : goal.returns
 returns c =
     three_parts _ _ _ _ _ _ c.inner_part-c.ensures c.requires.1

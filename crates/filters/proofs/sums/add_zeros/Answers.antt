@@ -1,15 +1,10 @@
 -- `add_zeros` meets its contract: a filling loop, each sample 0. Assumes nothing.
-use borrow.Author.Rules.{rules}
 use native.Mathlib.Omega.{arith}
-use Prim.Native.Nat.{◌-◌}
 use mathlib.Core.Path.{refl}
-use Rattle.rules.specs.Sums.{plus_zero}
-use Rattle.rules.proofs.Fill.{Filling, filling_start, filling_end}
-use Rattle.filters.specs.Blocks.{added}
+use Rattle.rules.proofs.Fill.{filling_start, filling_end}
 use Rattle.filters.proofs.Taps.{adding_more}
 use Rattle.filters.proofs.sums.add_zeros.Goals as goal
 
--- LOOK: 10 answers for 9 goals
 pub loop-i-init : goal.loop-i-init
 loop-i-init c = filling_start
 

@@ -1,12 +1,8 @@
 -- `add_zeros` meets its contract: a filling loop, each sample 0. Assumes nothing.
-use borrow.Author.Rules.{rules}
-use native.Mathlib.Omega.{arith}
 use Prim.Native.Nat.{◌-◌}
-use mathlib.Core.Path.{refl}
 use Rattle.rules.specs.Sums.{plus_zero}
-use Rattle.rules.proofs.Fill.{Filling, filling_start, filling_end}
+use Rattle.rules.proofs.Fill.{Filling}
 use Rattle.filters.specs.Blocks.{added}
-use Rattle.filters.proofs.Taps.{adding_more}
 use Rattle.filters.proofs.sums.add_zeros.Given as goal
 
 abbrev pub invariant-loop-i : goal.invariant-loop-i

@@ -1,13 +1,10 @@
 -- `byte_sums` meets its contract: one term after another. Assumes nothing.
 use borrow.Author.Rules.{rules}
-use Prim.Native.Nat.{◌+◌, ◌-◌}
-use lib.ListN.{length}
-use Rattle.rules.specs.Filters.{of_bytes, sampler, kernel_term, kernel_sum}
-use Rattle.rules.proofs.Sums.{Summing, summing_start, summing_more, summing_end}
+use Rattle.rules.specs.Filters.{kernel_sum}
+use Rattle.rules.proofs.Sums.{summing_start, summing_more, summing_end}
 use Rattle.filters.proofs.Terms.{cleared_all}
 use Rattle.filters.proofs.sums.byte_sums.Goals as goal
 
--- LOOK: 8 answers for 7 goals
 pub loop-j-init : goal.loop-j-init
 loop-j-init c = summing_start _ c.requires.block.room (cleared_all c.requires.block c.clear_floats.ensures)
 

@@ -1,10 +1,8 @@
 -- `byte_sums` meets its contract: one term after another. Assumes nothing.
-use borrow.Author.Rules.{rules}
 use Prim.Native.Nat.{◌+◌, ◌-◌}
 use lib.ListN.{length}
-use Rattle.rules.specs.Filters.{of_bytes, sampler, kernel_term, kernel_sum}
-use Rattle.rules.proofs.Sums.{Summing, summing_start, summing_more, summing_end}
-use Rattle.filters.proofs.Terms.{cleared_all}
+use Rattle.rules.specs.Filters.{of_bytes, sampler, kernel_term}
+use Rattle.rules.proofs.Sums.{Summing}
 use Rattle.filters.proofs.sums.byte_sums.Given as goal
 
 abbrev pub invariant-loop-j : goal.invariant-loop-j

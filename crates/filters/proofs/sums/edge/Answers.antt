@@ -1,5 +1,4 @@
 -- `edge` meets its contract: at the coordinate's place, or nowhere. Assumes nothing.
-use borrow.Author.Rules.{rules}
 use Rattle.filters.proofs.Taps.{row_cell, row_nowhere}
 use Rattle.filters.proofs.sums.edge.Goals as goal
 

@@ -1,14 +1,11 @@
 -- `float_sums` meets its contract: one term after another. Assumes nothing.
 use borrow.Author.Rules.{rules}
 use native.Mathlib.Nat.{one-mul}
-use Prim.Native.Nat.{◌+◌, ◌-◌}
-use lib.ListN.{length}
-use Rattle.rules.specs.Filters.{of_floats, sampler, kernel_term, kernel_sum, column_kernel}
-use Rattle.rules.proofs.Sums.{Summing, summing_start, summing_more, summing_end}
+use Rattle.rules.specs.Filters.{kernel_sum}
+use Rattle.rules.proofs.Sums.{summing_start, summing_more, summing_end}
 use Rattle.filters.proofs.Terms.{cleared_all}
 use Rattle.filters.proofs.sums.float_sums.Goals as goal
 
--- LOOK: 8 answers for 7 goals
 pub loop-k-init : goal.loop-k-init
 loop-k-init c = summing_start _ c.requires.block.room (cleared_all c.requires.block c.clear_floats.ensures)
 

@@ -1,11 +1,8 @@
 -- `float_sums` meets its contract: one term after another. Assumes nothing.
-use borrow.Author.Rules.{rules}
-use native.Mathlib.Nat.{one-mul}
 use Prim.Native.Nat.{◌+◌, ◌-◌}
 use lib.ListN.{length}
-use Rattle.rules.specs.Filters.{of_floats, sampler, kernel_term, kernel_sum, column_kernel}
-use Rattle.rules.proofs.Sums.{Summing, summing_start, summing_more, summing_end}
-use Rattle.filters.proofs.Terms.{cleared_all}
+use Rattle.rules.specs.Filters.{of_floats, sampler, kernel_term, column_kernel}
+use Rattle.rules.proofs.Sums.{Summing}
 use Rattle.filters.proofs.sums.float_sums.Given as goal
 
 abbrev pub invariant-loop-k : goal.invariant-loop-k

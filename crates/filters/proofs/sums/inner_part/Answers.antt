@@ -1,5 +1,4 @@
 -- `inner_part` meets its contract: whole numbers cut at 0. Assumes nothing.
-use borrow.Author.Rules.{rules}
 use Rattle.filters.proofs.Taps.{inner_is}
 use Rattle.filters.proofs.sums.inner_part.Goals as goal
 

@@ -1,5 +1,4 @@
 -- `place_about` meets its contract: what `place` gives of a side that is not refused. Assumes nothing.
-use borrow.Author.Rules.{rules}
 use mathlib.Core.Path.{◌∙◌}
 use Rattle.border.proofs.Reading.{placed_is}
 use Rattle.filters.proofs.sums.place_about.Goals as goal
