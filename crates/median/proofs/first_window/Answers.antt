@@ -1,5 +1,5 @@
 -- `first_window` meets its contract, column by column. Assumes nothing.
-use borrow.Author.Rules.{rules, zero≤}
+use borrow.Author.Rules.{rules}
 use native.Mathlib.Omega.{arith}
 use native.Mathlib.Nat.{zero-add}
 use mathlib.Core.Path.{◌≡◌}
@@ -9,9 +9,8 @@ use Rattle.median.specs.Counts.{Holds}
 use Rattle.median.proofs.Windows.{counts_of, put_holds}
 use Rattle.median.proofs.first_window.Goals as goal
 
--- LOOK: 8 answers for 7 goals
 pub loop-c-init : goal.loop-c-init
-loop-c-init c = (zero≤, c.requires.1)
+loop-c-init c = (omega arith, c.requires.1)
 
 pub put_column-requires : goal.put_column-requires
 put_column-requires c =

@@ -1,5 +1,5 @@
 -- `first_window` meets its contract, column by column. Assumes nothing.
-use borrow.Author.Rules.{rules, zero≤}
+use borrow.Author.Rules.{rules}
 use native.Mathlib.Omega.{arith}
 use native.Mathlib.Nat.{zero-add}
 use mathlib.Core.Path.{◌≡◌}

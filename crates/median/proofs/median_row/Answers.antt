@@ -4,14 +4,15 @@ use native.Mathlib.Omega.{arith}
 use Rattle.median.proofs.Windows.{part_count, part_about}
 use Rattle.median.proofs.median_row.Goals as goal
 
--- LOOK: 8 answers for 7 goals
 pub slide-requires : goal.slide-requires
 slide-requires c =
-    let n = part_count c.BEFORE_START.args.size _ _ _ _ c.UNKNOWN_place-rows.ensures in (
-      record { picture = c.BEFORE_START.requires.0; wide = c.BEFORE_START.requires.1; some = omega (arith, c.BEFORE_START.requires.3); few = omega (arith, c.BEFORE_START.requires.4) },
-      part_about c.BEFORE_START.args.size _ _ _ _ c.UNKNOWN_place-rows.ensures c.BEFORE_START.requires.2,
-      c.BEFORE_START.requires.5,
+    let s = c.requires in
+    let e = c.place_rows.ensures in
+    let n = part_count c.args.size _ _ _ _ e in (
+      record { picture = s.0; wide = s.1; some = omega (arith, s.3); few = omega (arith, s.4) },
+      part_about c.args.size _ _ _ _ e s.2,
+      s.5,
     )
 
 pub returns : goal.returns
-returns c = rw (part_count c.BEFORE_START _ _ _ _ c.UNKNOWN_place-rows.ensures) at c.slide.ensures
+returns c = rw (part_count c.args.size _ _ _ _ c.place_rows.ensures) at c.slide.ensures

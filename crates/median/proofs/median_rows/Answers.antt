@@ -8,7 +8,6 @@ use Rattle.border.proofs.Writing.{Rows, rows_start, rows_more, rows_all}
 use Rattle.median.specs.Counts.{median_of}
 use Rattle.median.proofs.median_rows.Goals as goal
 
--- LOOK: 8 answers for 7 goals
 pub returns-then-size-eq0 : goal.returns-then-size-eq0
 unfolding tabulate
 returns-then-size-eq0 c = rw (c.if-size-eq0.true, zero-mul)

@@ -6,7 +6,6 @@ use Rattle.rules.proofs.Fill.{Filling, filling_start, filling_more, filling_end}
 use Rattle.median.specs.Counts.{row_place}
 use Rattle.median.proofs.place_rows.Goals as goal
 
--- LOOK: 12 answers for 11 goals
 pub loop-j-init : goal.loop-j-init
 loop-j-init c = filling_start
 

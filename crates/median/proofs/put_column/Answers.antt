@@ -13,32 +13,27 @@ use Rattle.median.specs.Counts.{column_at, belows}
 use Rattle.median.proofs.Counting.{Changing, changing_start, changing_more, changing_all, put_small, belows_more}
 use Rattle.median.proofs.put_column.Goals as goal
 
--- OLD HELPERS:
--- | module _ (k : tie.After-shared-slice-known invariant-loop decreases-loop) where
--- |   abbrev column : ℕ → ℕ
--- |   column = let a = k.before.args in column_at a.pixels.now a.size a.rows.now a.x
--- |
--- |   counted : (j : ℕ) → column j < length k.before.args.counts.now
--- |   counted j = rw k.before.pre.0.count (read_byte _ _ (λ i. omega (arith, k.shared-slice-known.given i)) _ _)
-
--- LOOK: 16 answers for 15 goals
 pub loop-j-init : goal.loop-j-init
 unfolding tally
 loop-j-init c = (changing_start, omega arith)
 
 pub overflow_add-counts : goal.overflow_add-counts
 overflow_add-counts c =
-    rw c.loop-j.invariant.0.is (omega (arith, put_small (let told : ℕ → ℕ = column_at c.args.pixels.now c.args.size c.args.rows.now c.args.x in told) c.args.counts.now (let told : (j : ℕ) → (let told : ℕ → ℕ = column_at c.args.pixels.now c.args.size c.args.rows.now c.args.x in told) j < length c.args.counts.now = (λ j. rw c.requires.0.count (read_byte _ _ (λ i. omega (arith, c.type_inv.pixels i)) _ _)) in told) c.loop-j.j c.read-b.result max_side (c.requires.0.small c.read-b.result)))
+    let f : ℕ → ℕ = column_at c.args.pixels.now c.args.size c.args.rows.now c.args.x in
+    let n : (j : ℕ) → f j < length c.args.counts.now = λ j. rw c.requires.0.count (read_byte _ _ (λ i. omega (arith, c.type_inv.pixels i)) _ _) in
+    rw c.loop-j.invariant.0.is (omega (arith, put_small f c.args.counts.now n c.loop-j.j c.read-b.result max_side (c.requires.0.small c.read-b.result)))
 
 pub one_more-n-requires : goal.one_more-n-requires
 one_more-n-requires c =
-    omega (arith, c.loop-j.invariant.1, tally_all (λ i. ltb ((let told : ℕ → ℕ = column_at c.args.pixels.now c.args.size c.args.rows.now c.args.x in told) i) c.args.value) c.loop-j.j)
+    let f : ℕ → ℕ = column_at c.args.pixels.now c.args.size c.args.rows.now c.args.x in
+    omega (arith, c.loop-j.invariant.1, tally_all (λ i. ltb (f i) c.args.value) c.loop-j.j)
 
 pub loop-j-preserved : goal.loop-j-preserved
-loop-j-preserved c = (
-  changing_more c.loop-j-test.true c.loop-j.invariant.0 c.read-b.ensures,
-  omega (arith, c.one_more-n.ensures, c.loop-j.invariant.1, belows_more (let told : ℕ → ℕ = column_at c.args.pixels.now c.args.size c.args.rows.now c.args.x in told) c.read-b.ensures c.args.value),
-)
+loop-j-preserved c =
+    let f : ℕ → ℕ = column_at c.args.pixels.now c.args.size c.args.rows.now c.args.x in (
+      changing_more c.loop-j-test.true c.loop-j.invariant.0 c.read-b.ensures,
+      omega (arith, c.one_more-n.ensures, c.loop-j.invariant.1, belows_more f c.read-b.ensures c.args.value),
+    )
 
 pub returns : goal.returns
 returns c =

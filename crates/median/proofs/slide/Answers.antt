@@ -11,29 +11,23 @@ use Rattle.median.specs.Counts.{median_of, Holds, Middle}
 use Rattle.median.proofs.Windows.{counts_of, all_counted, median_at_lem, no_columns, none_below}
 use Rattle.median.proofs.slide.Goals as goal
 
--- OLD HELPERS: square, row
--- | square : (s : tie.Start invariant-loop decreases-loop) → let k = length s.args.rows.now in (1 ≤ k * k) × (k * k ≤ max_window * max_window)
--- | square s = let r = s.requires.0 in let h : 1 ≤ length s.args.rows.now = r.some in (mul-le-mul h h, mul-le-mul r.few r.few)
--- | row : (s : tie.Start invariant-loop decreases-loop) → Row s.args.size s.args.y
--- | row s = row_of_picture _ _ _ s.requires.0.picture s.requires.1.row
--- | module _ (m : tie.At-loop invariant-loop decreases-loop) where
--- |   abbrev S : tie.Start invariant-loop decreases-loop
--- |   S = m.before.before.before.before.before.before.before.before
--- |
--- |   bytes : (i : ℕ) → get_or S.args.pixels.now i 0 < 256
--- |   bytes i = omega (arith, m.before.before.before.before.before.before.before.shared-slice-known.given i)
-
--- LOOK: 17 answers for 16 goals
 pub first_window-requires : goal.first_window-requires
 first_window-requires c = (c.requires.0, no_columns)
 
 pub overflow_mul-item : goal.overflow_mul-item
 overflow_mul-item c =
-    omega (arith, (let told : let k = length c.args.rows.now in (1 ≤ k * k) × (k * k ≤ max_window * max_window) = let h : 1 ≤ length c.args.rows.now = c.requires.0.some in (mul-le-mul h h, mul-le-mul c.requires.0.few c.requires.0.few) in told))
+    -- the window's area is small
+    let k = length c.args.rows.now in
+    let r = c.requires.0 in
+    let h : 1 ≤ k = r.some in
+    let q : (1 ≤ k * k) × (k * k ≤ max_window * max_window) = (mul-le-mul h h, mul-le-mul r.few r.few) in
+    omega (arith, q)
 
 pub overflow_mul-a : goal.overflow_mul-a
 overflow_mul-a c =
-    omega (arith, (let told : Row c.args.size c.args.y = row_of_picture _ _ _ c.requires.0.picture c.requires.1.row in told))
+    -- and so is the picture's
+    let r = row_of_picture _ _ _ c.requires.0.picture c.requires.1.row in
+    omega (arith, r)
 
 pub loop-x-init : goal.loop-x-init
 loop-x-init c =
@@ -42,25 +36,40 @@ loop-x-init c =
 
 pub select-found-requires : goal.select-found-requires
 select-found-requires c =
-    let q : let k = length c.args.rows.now in (1 ≤ k * k) × (k * k ≤ max_window * max_window) = let h : 1 ≤ length c.args.rows.now = c.requires.0.some in (mul-le-mul h h, mul-le-mul c.requires.0.few c.requires.0.few) in let n = all_counted c.requires.0 c.requires.1 c.loop-x.invariant.1 (let told : (i : ℕ) → get_or c.args.pixels.now i 0 < 256 = (λ i. omega (arith, c.type_inv.pixels i)) in told) in
-    (counts_of c.requires.0 (omega arith) c.loop-x.invariant.1, c.loop-x.invariant.2, omega arith, omega arith)
+    let k = length c.args.rows.now in
+    let r = c.requires.0 in
+    let h : 1 ≤ k = r.some in
+    let q : (1 ≤ k * k) × (k * k ≤ max_window * max_window) = (mul-le-mul h h, mul-le-mul r.few r.few) in
+    let i = c.loop-x.invariant in
+    let n = all_counted r c.requires.1 i.1 (λ v. omega (arith, c.type_inv.pixels v)) in
+    (counts_of r (omega arith) i.1, i.2, omega arith, omega arith)
 
 pub overflow_cast-out : goal.overflow_cast-out
 overflow_cast-out c = record { fits = c.select-found.ensures.middle.byte }
 
 pub overflow_add-out : goal.overflow_add-out
-overflow_add-out c = omega (arith, row c)
+overflow_add-out c =
+    let r = row_of_picture _ _ _ c.requires.0.picture c.requires.1.row in
+    omega (arith, r)
 
 pub bounds-out-a : goal.bounds-out-a
-bounds-out-a c = omega (arith, row c, c.loop-x.invariant.0.same, c.requires.2, c.loop-x-test.true)
+bounds-out-a c =
+    let r = row_of_picture _ _ _ c.requires.0.picture c.requires.1.row in
+    omega (arith, r, c.loop-x.invariant.0.same, c.requires.2, c.loop-x-test.true)
 
 pub move_window-below-requires : goal.move_window-below-requires
 move_window-below-requires c =
-    (c.requires.0, c.loop-x-test.true, c.loop-x.invariant.1, c.select-found.ensures.middle, omega (arith, square c, c.select-found.ensures.from))
+    let k = length c.args.rows.now in
+    let r = c.requires.0 in
+    let h : 1 ≤ k = r.some in
+    let q : (1 ≤ k * k) × (k * k ≤ max_window * max_window) = (mul-le-mul h h, mul-le-mul r.few r.few) in
+    let e = c.select-found.ensures in
+    (r, c.loop-x-test.true, c.loop-x.invariant.1, e.middle, omega (arith, q, e.from))
 
 pub loop-x-preserved : goal.loop-x-preserved
 loop-x-preserved c =
-    let r : Row c.args.size c.args.y = row_of_picture _ _ _ c.requires.0.picture c.requires.1.row in let w = c.args.y * c.args.size.width in
+    let r = row_of_picture _ _ _ c.requires.0.picture c.requires.1.row in
+    let w = c.args.y * c.args.size.width in
     let z : w + (c.loop-x.x + 1) ≡ w + c.loop-x.x + 1 = omega arith in
     let v = median_at_lem c.requires.0 c.requires.1 c.loop-x.invariant.1 c.loop-x-test.true c.select-found.ensures in
     (rw z (writing_more (omega (arith, c.requires.2)) (omega arith) c.loop-x.invariant.0 v), c.move_window-below.ensures.0, c.move_window-below.ensures.1)

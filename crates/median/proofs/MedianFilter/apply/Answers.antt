@@ -20,17 +20,12 @@ granted d w pixels out z =
     let k = count_off max_window w o.1.1.0 in
     (record { sides = side_off d o.0; long = input_off d pixels o.1.0 }, k.some, k.few, room_off d out o.1.1.1.0)
 
--- OLD HELPERS: begun
--- | begun : tie.Else1 → tie.Start
--- | begun e = e.before.before.before.before.before
-
--- LOOK: 6 answers for 4 goals
 pub returns-then-refusal-ne-ACCEPTED : goal.returns-then-refusal-ne-ACCEPTED
 unfolding median
 returns-then-refusal-ne-ACCEPTED c = refused_is _ _ c.of_median-refusal.ensures _ _ c.if-refusal-ne-ACCEPTED.true
 
 pub median_rows-requires : goal.median_rows-requires
-median_rows-requires c = granted _ _ _ (begun c).args.out.now (sym c.of_median-refusal.ensures ∙ c.if-refusal-ne-ACCEPTED.false)
+median_rows-requires c = granted _ _ _ c.args.out.now (sym c.of_median-refusal.ensures ∙ c.if-refusal-ne-ACCEPTED.false)
 
 pub returns : goal.returns
 unfolding median
