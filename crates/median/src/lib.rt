@@ -1,4 +1,6 @@
 // The median of a square window, by counts of the 256 byte values that move along a row: one column out, one in.
+#![tactic(auto)]
+
 ghost use Rattle.std.specs.Prelude.{◌≡◌, ◌+◌, ◌-◌, ◌*◌, ◌/◌, ◌≤◌, ◌<◌, ltb, length};
 ghost use Rattle.rules.specs.Limits.{max_side, max_window};
 ghost use Rattle.rules.specs.Picture.{area, bit, filled};

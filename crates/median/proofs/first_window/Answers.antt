@@ -1,0 +1,29 @@
+-- `first_window` meets its contract, column by column. Assumes nothing.
+use borrow.Author.Rules.{rules}
+use native.Mathlib.Omega.{arith}
+use native.Mathlib.Nat.{zero-add}
+use mathlib.Core.Path.{◌≡◌}
+use Prim.Native.Nat.{◌-◌, ◌≤◌}
+use lib.ListN.{length}
+use Rattle.median.specs.Counts.{Holds}
+use Rattle.median.proofs.Windows.{counts_of, put_holds}
+use Rattle.median.proofs.first_window.Goals as goal
+
+pub loop-c-init : goal.loop-c-init
+loop-c-init c = (omega arith, c.requires.1)
+
+pub put_column-requires : goal.put_column-requires
+put_column-requires c =
+    let p = counts_of c.requires.0 c.loop-c.invariant.0 c.loop-c.invariant.1 in
+    search rules
+
+pub loop-c-preserved : goal.loop-c-preserved
+loop-c-preserved c = (
+  search rules,
+  put_holds (λ i. omega (arith, c.type_inv.pixels i)) c.loop-c.invariant.1 (rw zero-add c.place_column-x.ensures) c.put_column.ensures.0,
+)
+
+pub returns : goal.returns
+returns c =
+    let n : c.loop-c.c ≡ length c.args.rows.now = omega arith in
+    rw n at c.loop-c.invariant.1

@@ -1,0 +1,41 @@
+-- `put_column` meets its contract, sample by sample. Assumes nothing.
+use borrow.Author.Rules.{rules}
+use native.Mathlib.Omega.{arith}
+use mathlib.Core.Path.{◌≡◌}
+use Prim.Native.Nat.{ℕ, ◌+◌, ◌-◌, ◌<◌}
+use lib.Dec.{ltb}
+use lib.ListN.{length}
+use Rattle.rules.specs.Picture.{tally}
+use Rattle.rules.specs.Limits.{max_side}
+use Rattle.rules.proofs.Tallies.{tally_all}
+use Rattle.border.proofs.Reading.{read_byte}
+use Rattle.median.specs.Counts.{column_at, belows}
+use Rattle.median.proofs.Counting.{Changing, changing_start, changing_more, changing_all, put_small, belows_more}
+use Rattle.median.proofs.put_column.Goals as goal
+
+pub loop-j-init : goal.loop-j-init
+unfolding tally
+loop-j-init c = (changing_start, omega arith)
+
+pub overflow_add-counts : goal.overflow_add-counts
+overflow_add-counts c =
+    let f : ℕ → ℕ = column_at c.args.pixels.now c.args.size c.args.rows.now c.args.x in
+    let n : (j : ℕ) → f j < length c.args.counts.now = λ j. rw c.requires.0.count (read_byte _ _ (λ i. omega (arith, c.type_inv.pixels i)) _ _) in
+    rw c.loop-j.invariant.0.is (omega (arith, put_small f c.args.counts.now n c.loop-j.j c.read-b.result max_side (c.requires.0.small c.read-b.result)))
+
+pub one_more-n-requires : goal.one_more-n-requires
+one_more-n-requires c =
+    let f : ℕ → ℕ = column_at c.args.pixels.now c.args.size c.args.rows.now c.args.x in
+    omega (arith, c.loop-j.invariant.1, tally_all (λ i. ltb (f i) c.args.value) c.loop-j.j)
+
+pub loop-j-preserved : goal.loop-j-preserved
+loop-j-preserved c =
+    let f : ℕ → ℕ = column_at c.args.pixels.now c.args.size c.args.rows.now c.args.x in (
+      changing_more c.loop-j-test.true c.loop-j.invariant.0 c.read-b.ensures,
+      omega (arith, c.one_more-n.ensures, c.loop-j.invariant.1, belows_more f c.read-b.ensures c.args.value),
+    )
+
+pub returns : goal.returns
+returns c =
+    let e = changing_all c.loop-j.invariant.0 c.loop-j-test.false in
+    (rw e at c.loop-j.invariant.0.is, rw e at c.loop-j.invariant.1)
