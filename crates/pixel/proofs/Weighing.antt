@@ -44,15 +44,9 @@ module _ {table : List ℤ} {nine : List ℕ} (k : Lent table nine) where
   pub product_fits : (j : ℕ) → SFits w16 (product j)
   product_fits j = rw (product_is j) (sfits w16 (term table nine j) (omega (arith, term_size j)))
 
-  module _ {j bits : ℕ} (l : j < 9) (e : bits ≡ of_z w16 (sum_z (term table nine) j)) where
-    pub sum_is : to_z w16 bits +ℤ to_z w16 (of_z w16 (product j)) ≡ sum_z (term table nine) (j + 1)
-    unfolding sum_z
-    sum_is =
-        let f = back w16 (sum_z (term table nine) j) (omega (arith, sum_within j)) in
-        rw (e, f, product_is j, back w16 (term table nine j) (omega (arith, term_size j)), add-one)
-
-    pub sum_fits : SFits w16 (to_z w16 bits +ℤ to_z w16 (of_z w16 (product j)))
-    sum_fits = rw sum_is (sfits w16 (sum_z (term table nine) (j + 1)) (omega (arith, sum_within (j + 1))))
+  pub sum_is : {j : ℕ} {x : ℤ} → j < 9 → x ≡ sum_z (term table nine) j → x +ℤ to_z w16 (of_z w16 (product j)) ≡ sum_z (term table nine) (j + 1)
+  unfolding sum_z
+  sum_is {j} l e = rw (e, product_is j, back w16 (term table nine j) (omega (arith, term_size j)), add-one)
 
 -- ---- a table that the checker can compute has small weights: one test
 

@@ -38,6 +38,7 @@ pub struct Offset {
 }
 
 // The first neighbour of a sector, as the table has it; the second is its opposite (01.Gradient.13 to 01.Gradient.17, 02.2.3).
+#[tactic(auto, unfolding(rules::specs::Sector::neighbours))]
 pub fn first_neighbour(sector: u8) -> Offset
     ensures { offset result.dx result.dy ≡ (neighbours sector).0 }
 {

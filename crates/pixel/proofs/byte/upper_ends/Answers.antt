@@ -2,9 +2,8 @@
 use Rattle.std.proofs.Common.{refl}
 use Rattle.rules.specs.Picture.{tabulate}
 use Rattle.pixel.specs.Halving.{upper_ends}
-use Rattle.pixel.proofs.byte.upper_ends.Statement.{statement}
-use Rattle.pixel.proofs.byte.upper_ends.Tie as tie
+use Rattle.pixel.proofs.byte.upper_ends.Goals as goal
 
-pub upper-ends-spec : {M : Type 1} → statement M
+pub returns : goal.returns
 unfolding upper_ends tabulate
-upper-ends-spec = tie.close (tie.spec (λ c. refl))
+returns c = refl
