@@ -1,6 +1,5 @@
 -- `half_by` meets its contract: the table has the end before the upper half. Assumes nothing.
-use Rattle.std.proofs.Common.{◌≡◌, ◌+◌, ◌-◌, arith, get_or}
-use Rattle.rules.specs.Root.{upper_end}
+use Rattle.std.proofs.Common.{◌+◌, ◌-◌, arith}
 use Rattle.pixel.proofs.Halving.{upper, lower}
 use Rattle.pixel.proofs.byte.half_by.Goals as goal
 

@@ -3,7 +3,7 @@ use Rattle.std.proofs.Common.{◌≡◌, ◌+◌, refl, zero-le, arith, w16}
 use Rattle.rules.specs.Gradient.{sum_z}
 use Rattle.rules.proofs.Sizes.{back}
 use Rattle.pixel.specs.Components.{component}
-use Rattle.pixel.proofs.Weighing.{Lent, term, sum_within, sum_is}
+use Rattle.pixel.proofs.Weighing.{Lent, sum_within, sum_is}
 use Rattle.pixel.proofs.components.weigh.Goals as goal
 
 pub loop-j-init : goal.loop-j-init

@@ -1,5 +1,5 @@
 -- `weigh`: the sum so far, which nine terms of at most 510 keep within an i16. Assumes nothing.
-use Rattle.std.proofs.Common.{◌-◌, ◌*◌, ◌≡◌, ◌≤◌, w16, of_z}
+use Rattle.std.proofs.Common.{◌-◌, ◌*◌, ◌≡◌, ◌≤◌}
 use lib.IntN.{nat_abs}
 use Rattle.rules.specs.Gradient.{sum_z}
 use Rattle.pixel.proofs.Weighing.{term}

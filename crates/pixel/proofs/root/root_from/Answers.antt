@@ -1,7 +1,6 @@
 -- `root_from` meets its contract: what is mended passes 01's tests, and only the root does. Assumes nothing.
 use Rattle.std.proofs.Common.{arith, rules}
-use Rattle.rules.specs.Root.{NearestRoot}
-use Rattle.pixel.proofs.Mending.{shift, shift_is, within, found, bits_fine, bits_are}
+use Rattle.pixel.proofs.Mending.{shift_is, within, found, bits_fine, bits_are}
 use Rattle.pixel.proofs.root.root_from.Goals as goal
 
 pub overflow_sub-k-3 : goal.overflow_sub-k-3
