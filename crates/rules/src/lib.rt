@@ -4,7 +4,7 @@
 pub mod codes;
 
 // What a sample outside the picture reads as (01.Border.3 to 01.Border.5).
-#[derive(Drop)]
+#[derive(Clone, Copy)]
 pub enum BorderMode {
     // 0.
     Zero,
@@ -15,7 +15,7 @@ pub enum BorderMode {
 }
 
 // Where a coordinate is read.
-#[derive(Drop)]
+#[derive(Clone, Copy)]
 pub enum Coord {
     // At this place of the side.
     At(usize),
@@ -26,35 +26,35 @@ pub enum Coord {
 }
 
 // The two sides of a picture in row order.
-#[derive(Drop)]
+#[derive(Clone, Copy)]
 pub struct Size {
     pub width: usize,
     pub height: usize,
 }
 
 // The two sides of a kernel; its width times height weights are lent beside it, in row order.
-#[derive(Drop)]
+#[derive(Clone, Copy)]
 pub struct Kernel {
     pub width: usize,
     pub height: usize,
 }
 
 // How many taps a separable kernel has each way; the taps are lent beside it.
-#[derive(Drop)]
+#[derive(Clone, Copy)]
 pub struct SeparableKernel {
     pub horizontal: usize,
     pub vertical: usize,
 }
 
 // The two thresholds of a walk (01.Refusal.17).
-#[derive(Drop)]
+#[derive(Clone, Copy)]
 pub struct Thresholds {
     pub low: f32,
     pub high: f32,
 }
 
 // A walk's state; its marks and its stack are lent beside it (01.Walk.1).
-#[derive(Drop)]
+#[derive(Clone, Copy)]
 pub struct Walk {
     pub width: usize,
     pub height: usize,
@@ -62,14 +62,14 @@ pub struct Walk {
 }
 
 // The answer of a start: refused, the state is all zero.
-#[derive(Drop)]
+#[derive(Clone, Copy)]
 pub struct Started {
     pub refusal: u8,
     pub walk: Walk,
 }
 
 // The answer of a slice: refused, no takes and the state as it was.
-#[derive(Drop)]
+#[derive(Clone, Copy)]
 pub struct Sliced {
     pub refusal: u8,
     pub takes: usize,
@@ -77,14 +77,14 @@ pub struct Sliced {
 }
 
 // The answer of a request for the map, with the state as it was.
-#[derive(Drop)]
+#[derive(Clone, Copy)]
 pub struct Mapped {
     pub refusal: u8,
     pub walk: Walk,
 }
 
 // The answer of a whole run: how many entries of the map are 255; refused, 0.
-#[derive(Drop)]
+#[derive(Clone, Copy)]
 pub struct Counted {
     pub refusal: u8,
     pub count: usize,

@@ -1,5 +1,7 @@
 // Buffers cleared, and bytes counted: what a whole run ends with, and its stages begin with. Every function is total: of a
 // buffer with fewer than n entries, all that it has.
+#![tactic(auto)]
+
 ghost use Rattle.std.specs.Prelude.{◌≡◌, ◌+◌, ◌-◌, ◌≤◌, min, length, pos};
 ghost use Rattle.rules.specs.Sums.{plus_zero};
 ghost use Rattle.rules.specs.Walk.{count};
