@@ -31,7 +31,7 @@ pub fn sector(gx: i16, gy: i16) -> u8
 }
 
 // A step to a neighbour: columns to the right, rows downwards.
-#[derive(Drop)]
+#[derive(Clone, Copy)]
 pub struct Offset {
     pub dx: i8,
     pub dy: i8,
