@@ -1,5 +1,5 @@
 -- `gradient_rows`: both buffers, row by row. Assumes nothing.
-use Rattle.std.proofs.Common.{◌≡◌, ◌+◌, ◌-◌, ◌*◌, ◌≤◌, ◌<◌, true, length, drop}
+use Rattle.std.proofs.Common.{◌-◌}
 use Rattle.rules.specs.Gradient.{gx_table, gy_table, gradient_at}
 use Rattle.rules.proofs.ByRows.{ByRows}
 use Rattle.gradient.proofs.components.gradient_rows.Given as goal

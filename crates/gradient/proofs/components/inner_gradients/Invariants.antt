@@ -1,5 +1,5 @@
 -- `inner_gradients`: two filling loops in one, pixel by pixel. Assumes nothing.
-use Rattle.std.proofs.Common.{◌≡◌, ◌+◌, ◌-◌, ◌*◌, ◌≤◌, ◌<◌, true, length, drop}
+use Rattle.std.proofs.Common.{◌+◌, ◌-◌}
 use Rattle.rules.proofs.Fill.{Filling}
 use Rattle.rules.specs.Gradient.{gx_table, gy_table}
 use Rattle.gradient.specs.Rows.{component_beside}

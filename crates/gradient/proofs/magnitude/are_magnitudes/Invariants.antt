@@ -1,5 +1,5 @@
 -- `are_magnitudes`: all so far, entry by entry. Assumes nothing.
-use Rattle.std.proofs.Common.{◌≡◌, ◌+◌, ◌-◌, ◌*◌, ◌≤◌, ◌<◌, true, length, drop}
+use Rattle.std.proofs.Common.{◌≡◌, ◌-◌, ◌≤◌, true}
 use lib.Ieee.{nan}
 use Rattle.rules.specs.Calls.{magnitude_at}
 use Rattle.gradient.specs.Entries.{AllBelow}

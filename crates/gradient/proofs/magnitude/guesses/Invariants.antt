@@ -1,5 +1,5 @@
 -- `guesses`: nothing is written past the n entries. Assumes nothing.
-use Rattle.std.proofs.Common.{◌≡◌, ◌+◌, ◌-◌, ◌*◌, ◌≤◌, ◌<◌, true, length, drop}
+use Rattle.std.proofs.Common.{◌≡◌, ◌-◌, ◌≤◌, drop}
 use Rattle.gradient.proofs.magnitude.guesses.Given as goal
 
 abbrev pub invariant-loop-i : goal.invariant-loop-i

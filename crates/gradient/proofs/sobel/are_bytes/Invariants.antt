@@ -1,5 +1,5 @@
 -- `are_bytes`: all so far, entry by entry. Assumes nothing.
-use Rattle.std.proofs.Common.{◌≡◌, ◌+◌, ◌-◌, ◌*◌, ◌≤◌, ◌<◌, true, length, drop}
+use Rattle.std.proofs.Common.{◌≡◌, ◌-◌, ◌≤◌, true}
 use Rattle.gradient.specs.Bytes.{byte_by}
 use Rattle.gradient.specs.Entries.{AllBelow}
 use Rattle.gradient.proofs.sobel.are_bytes.Given as goal

@@ -1,5 +1,5 @@
 -- `byte_row`: the row, block by block. Assumes nothing.
-use Rattle.std.proofs.Common.{◌≡◌, ◌+◌, ◌-◌, ◌*◌, ◌≤◌, ◌<◌, true, length, drop}
+use Rattle.std.proofs.Common.{◌-◌, length}
 use Rattle.rules.proofs.Fill.{Filling}
 use Rattle.gradient.specs.Rows.{byte_in}
 use Rattle.gradient.proofs.sobel.byte_row.Given as goal

@@ -1,5 +1,5 @@
 -- `byte_rows`: the buffer, row by row. Assumes nothing.
-use Rattle.std.proofs.Common.{◌≡◌, ◌+◌, ◌-◌, ◌*◌, ◌≤◌, ◌<◌, true, length, drop}
+use Rattle.std.proofs.Common.{◌-◌}
 use Rattle.rules.specs.Calls.{sobel_at}
 use Rattle.rules.proofs.ByRows.{ByRows}
 use Rattle.gradient.proofs.sobel.byte_rows.Given as goal

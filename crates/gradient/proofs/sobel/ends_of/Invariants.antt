@@ -1,5 +1,5 @@
 -- `ends_of`: a filling loop that reads the table. Assumes nothing.
-use Rattle.std.proofs.Common.{◌≡◌, ◌+◌, ◌-◌, ◌*◌, ◌≤◌, ◌<◌, true, length, drop}
+use Rattle.std.proofs.Common.{◌-◌}
 use Rattle.rules.proofs.Fill.{Filling}
 use Rattle.gradient.specs.Bytes.{end_of}
 use Rattle.gradient.proofs.sobel.ends_of.Given as goal

@@ -1,5 +1,5 @@
 -- `inner_sums`: a filling loop, pixel by pixel. Assumes nothing.
-use Rattle.std.proofs.Common.{◌≡◌, ◌+◌, ◌-◌, ◌*◌, ◌≤◌, ◌<◌, true, length, drop}
+use Rattle.std.proofs.Common.{◌+◌, ◌-◌}
 use Rattle.rules.proofs.Fill.{Filling}
 use Rattle.gradient.specs.Rows.{sum_beside}
 use Rattle.gradient.proofs.sobel.inner_sums.Given as goal

@@ -1,5 +1,5 @@
 -- `one_by_one`: a filling loop. Assumes nothing.
-use Rattle.std.proofs.Common.{◌≡◌, ◌+◌, ◌-◌, ◌*◌, ◌≤◌, ◌<◌, true, length, drop}
+use Rattle.std.proofs.Common.{◌-◌}
 use Rattle.rules.proofs.Fill.{Filling}
 use Rattle.gradient.specs.Bytes.{byte_by}
 use Rattle.gradient.proofs.sobel.one_by_one.Given as goal

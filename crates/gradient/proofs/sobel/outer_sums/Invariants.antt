@@ -1,5 +1,5 @@
 -- `outer_sums`: a filling loop, pixel by pixel. Assumes nothing.
-use Rattle.std.proofs.Common.{◌≡◌, ◌+◌, ◌-◌, ◌*◌, ◌≤◌, ◌<◌, true, length, drop}
+use Rattle.std.proofs.Common.{◌+◌, ◌-◌}
 use Rattle.rules.proofs.Fill.{Filling}
 use Rattle.gradient.specs.Rows.{sum_in}
 use Rattle.gradient.proofs.sobel.outer_sums.Given as goal

@@ -1,5 +1,5 @@
 -- `suppress_rows`: a picture filled row by row, the first row already. Assumes nothing.
-use Rattle.std.proofs.Common.{◌≡◌, ◌+◌, ◌-◌, ◌*◌, ◌≤◌, ◌<◌, true, length, drop}
+use Rattle.std.proofs.Common.{◌≡◌, ◌-◌, ◌*◌, ◌<◌}
 use Rattle.rules.proofs.Fill.{Filling}
 use Rattle.rules.specs.Picture.{area, by_pixel}
 use Rattle.rules.specs.Suppression.{suppressed_at}
