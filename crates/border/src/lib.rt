@@ -1,3 +1,5 @@
 // Reading a picture through its border: what the filters' crates stand on.
+#![tactic(auto)]
+
 pub mod coord;
 pub mod picture;

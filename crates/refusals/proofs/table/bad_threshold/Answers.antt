@@ -3,8 +3,7 @@ use mathlib.Core.Path.{◌≡◌, refl}
 use mathlib.Core.Bool.{true, false, not, ◌||◌}
 use lib.Ieee.{Float, nan, inf, fin, binary32, lt, of_bits, of_fields, of_int, round, odd, units, span, climb, size, nan_bits}
 use Rattle.rules.specs.Refusals.{bad_threshold}
-use Rattle.refusals.proofs.table.bad_threshold.Statement.{statement}
-use Rattle.refusals.proofs.table.bad_threshold.Tie as tie
+use Rattle.refusals.proofs.table.bad_threshold.Goals as goal
 
 threshold-test : (t : Float) → (not (lt t (of_bits binary32 0x7f80_0000)) || (lt t (of_bits binary32 0) || lt (of_bits binary32 0x437f_0000) t)) ≡ bad_threshold t
 unfolding lt of_bits of_fields of_int round odd units span climb size
@@ -13,12 +12,9 @@ threshold-test (inf true) = refl
 threshold-test (inf false) = refl
 threshold-test (fin s m e) = refl
 
-float-from-bits-infinity : tie.Need-float-from-bits-infinity
+pub float_from_bits-infinity : goal.float_from_bits-infinity
 unfolding nan_bits
-float-from-bits-infinity c = tt
+float_from_bits-infinity c = tt
 
-returns : tie.Need-returns
+pub returns : goal.returns
 returns c = threshold-test _
-
-pub bad-threshold-spec : {M : Type 1} → statement M
-bad-threshold-spec = tie.close (tie.spec float-from-bits-infinity returns)
