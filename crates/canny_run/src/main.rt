@@ -1,27 +1,32 @@
 // Runs whole runs over poisoned scratch, and every refusal: the cases stand in the file stdin, one to a line, with what 01 wants of each.
 // Each line has what was got and what is wanted.
+#![tactic(auto)]
+
 mod buffers;
 mod case;
 mod lines;
 
-use libc::STDIN_FILENO;
+use std::io;
+use std::io::Read;
 
-fn main() {
-    let mut text = io::large_buffer();
-    let n = io::read_full(STDIN_FILENO, &mut text);
-    lines_of(&text[..n]);
+fn main(rt: HostRuntime) -> io::Result<()> {
+    let mut text = Vec::new(rt.alloc());
+    rt.stdin().read_to_end(&mut text)?;
+    lines_of(&rt, &text)
 }
 
-fn lines_of(text: &[u8]) {
+fn lines_of(rt: &impl Print, text: &[u8]) -> io::Result<()> {
     let mut at = 0;
     while at < text.len() {
-        let case = cases::case(text, &mut at);
-        line(&case);
+        let case = cases::case(rt, text, &mut at)?;
+        line(rt, &case)?;
     }
+    Ok(())
 }
 
-fn line(case: &[u32; 80]) {
+fn line(rt: &impl Print, case: &[u32; 80]) -> io::Result<()> {
     if case[0] != 0 {
-        buffers::run(case);
+        buffers::run(rt, case)?;
     }
+    Ok(())
 }

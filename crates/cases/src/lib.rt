@@ -1,9 +1,11 @@
 // Cases that stand in a text, one to a line: a name, a colon, and numbers with a space before each. A line that begins with # is a remark.
 // A number is 12, -12 (the pattern of 32 bits), x7fc00000 (bits) or f12 (the bits of the float 12). What is misread shows in what the
 // program writes.
+#![tactic(auto)]
+
 pub mod fields;
 
-ghost use Rattle.std.specs.Prelude.{◌≡◌, ◌&&◌, ◌≤◌, ◌%◌, min, eqb, ltb, length, get_or};
+ghost use Rattle.std.specs.Prelude.{◌≡◌, ◌&&◌, ◌≤◌, ◌%◌, min, eqb, ltb, length, get_or, IfOk};
 ghost use Rattle.std.specs.Float.{binary32};
 ghost use Rattle.std.specs.Float.Ieee.{of_bits};
 ghost use Rattle.rules.specs.Border.{mode_of};
@@ -13,6 +15,7 @@ ghost use Rattle.cases.specs.Lists.{Turned, signed_of};
 use rules::BorderMode;
 use rules::codes::{float, mode_of};
 use scratch::least;
+use std::io;
 
 // How many numbers a case has; those that its line leaves out are 0.
 const ROW: usize = 80;
@@ -25,17 +28,19 @@ pub(crate) const SPACE: u8 = 32;
 
 pub(crate) const COLON: u8 = 58;
 
-// The line at `at`: writes its name and gives its numbers. `at` is then the next line. A remark writes nothing, and gives zeros.
-pub fn case(text: &[u8], at: &mut usize) -> [u32; 80]
-    ensures { Case text.now at.old at.new result }
+// The line at `at`: writes its name and gives its numbers. `at` is then the next line, also where the write fails. A remark writes nothing,
+// and gives zeros.
+pub fn case(rt: &impl Print, text: &[u8], at: &mut usize) -> io::Result<[u32; 80]>
+    ensures ok { IfOk result (λ numbers. Case text.now at.old at.new numbers) }
+    ensures onward { Onward text.now at.old at.new }
 {
     let from = *at;
     *at = next_line(text, from);
     if starts_remark(text, from) {
-        return [0; 80];
+        return Ok([0; 80]);
     }
-    let mut place = after_name(text, from);
-    row(text, &mut place)
+    let mut place = after_name(rt, text, from)?;
+    Ok(row(text, &mut place))
 }
 
 pub fn starts_remark(text: &[u8], at: usize) -> bool
@@ -76,15 +81,15 @@ pub fn next_line(text: &[u8], from: usize) -> usize
 }
 
 // Writes a name; the place of the space after its colon.
-pub fn after_name(text: &[u8], from: usize) -> usize
-    ensures { from ≤ result }
+pub fn after_name(rt: &impl Print, text: &[u8], from: usize) -> io::Result<usize>
+    ensures { IfOk result (λ place. from ≤ place) }
 {
     let end = place_of(text, from, COLON, NEWLINE);
     if end < text.len() {
-        report::words(&text[from..end]);
-        return end + 1;
+        report::words(rt, &text[from..end])?;
+        return Ok(end + 1);
     }
-    end
+    Ok(end)
 }
 
 fn row(text: &[u8], at: &mut usize) -> [u32; 80]

@@ -1,11 +1,31 @@
 // The program: one frame from standard input, its printout to standard output.
-use frame::{FILE_ROOM, TEXT_ROOM};
-use libc::{STDIN_FILENO, STDOUT_FILENO};
+#![tactic(auto)]
 
-fn main() {
+ghost use Rattle.std.specs.Prelude.{◌≤◌, IfOk, length};
+
+use frame::{FILE_ROOM, TEXT_ROOM};
+use std::io;
+use std::io::Read;
+
+fn main(rt: HostRuntime) -> io::Result<()> {
     let mut file = [0u8; FILE_ROOM];
-    let read = io::read_full(STDIN_FILENO, &mut file);
+    let read = read_full(&mut rt.stdin(), &mut file)?;
     let mut text = [0u8; TEXT_ROOM];
     let written = frame::print(&file, read, &mut text);
-    io::write_all(STDOUT_FILENO, &text[..written]);
+    rt.write_all(&text[..written])
+}
+
+// Reads until the buffer is full or the input ends; how many bytes.
+fn read_full(from: &mut impl Read, buffer: &mut [u8]) -> io::Result<usize>
+    ensures { IfOk result (λ n. n ≤ length buffer.new) }
+{
+    let mut done = 0;
+    while done < buffer.len() {
+        let n = from.read(&mut buffer[done..])?;
+        if n == 0 {
+            return Ok(done);
+        }
+        done += n;
+    }
+    Ok(done)
 }

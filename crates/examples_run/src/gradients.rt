@@ -8,72 +8,74 @@ use kelontsira::gradients::{
     kelontsira_gradient_magnitude, kelontsira_magnitude_of, kelontsira_non_maximum_suppression,
     kelontsira_sector, kelontsira_sobel_gradients,
 };
+use std::io;
 
 // Whether the case is one of these.
-pub(crate) fn run(line: &[u8]) -> bool {
+pub(crate) fn run(rt: &impl Print, line: &[u8]) -> io::Result<bool> {
     if calls(line, b"sobel_gradients") {
-        components(line);
-        return true;
+        components(rt, line)?;
+        return Ok(true);
     }
     if calls(line, b"gradient_magnitude") {
-        magnitude(line);
-        return true;
+        magnitude(rt, line)?;
+        return Ok(true);
     }
     if calls(line, b"non_maximum_suppression") {
-        suppression(line);
-        return true;
+        suppression(rt, line)?;
+        return Ok(true);
     }
-    one_pixel(line)
+    one_pixel(rt, line)
 }
 
 // What is made of single numbers.
-fn one_pixel(line: &[u8]) -> bool {
+fn one_pixel(rt: &impl Print, line: &[u8]) -> io::Result<bool> {
     let s = fields::number(line, b"s");
     if calls(line, b"sobel_byte") {
-        lines::number(b"", line, kelontsira_sobel_byte(s));
-        return true;
+        lines::number(rt, b"", line, kelontsira_sobel_byte(s))?;
+        return Ok(true);
     }
     if calls(line, b"magnitude_of") {
         report::float(
+            rt,
             b"",
             kelontsira_magnitude_of(s),
             fields::number(line, b"float"),
-        );
-        return true;
+        )?;
+        return Ok(true);
     }
     if calls(line, b"sector") {
         let gx = signed(fields::number(line, b"gx"));
         let gy = signed(fields::number(line, b"gy"));
-        lines::number(b"", line, kelontsira_sector(gx, gy));
-        return true;
+        lines::number(rt, b"", line, kelontsira_sector(gx, gy))?;
+        return Ok(true);
     }
-    every_sum(line)
+    every_sum(rt, line)
 }
 
-fn every_sum(line: &[u8]) -> bool {
+fn every_sum(rt: &impl Print, line: &[u8]) -> io::Result<bool> {
     let wanted = wide(fields::number(line, b"count"));
     if calls(line, b"every_magnitude") {
-        report::number(b"", magnitudes::every(), wanted);
-        return true;
+        report::number(rt, b"", magnitudes::every(), wanted)?;
+        return Ok(true);
     }
     if calls(line, b"every_guess") {
-        report::number(b"", magnitudes::guesses(false, 65026), wanted);
-        return true;
+        report::number(rt, b"", magnitudes::guesses(false, 65026), wanted)?;
+        return Ok(true);
     }
     if calls(line, b"every_byte_guess") {
-        report::number(b"", magnitudes::guesses(true, 64772), wanted);
-        return true;
+        report::number(rt, b"", magnitudes::guesses(true, 64772), wanted)?;
+        return Ok(true);
     }
-    false
+    Ok(false)
 }
 
-fn components(line: &[u8]) {
+fn components(rt: &impl Print, line: &[u8]) -> io::Result<()> {
     let mut pixels = [0u8; ROOM];
     let n = fields::bytes(line, b"pixels", &mut pixels);
-    lend(line, &pixels[0..n]);
+    lend(rt, line, &pixels[0..n])
 }
 
-fn lend(line: &[u8], pixels: &[u8]) {
+fn lend(rt: &impl Print, line: &[u8], pixels: &[u8]) -> io::Result<()> {
     let mut gx = [0i16; ROOM];
     let mut gy = [0i16; ROOM];
     let n = fields::numbers(line, b"gx", &mut gx);
@@ -86,18 +88,17 @@ fn lend(line: &[u8], pixels: &[u8]) {
         &mut gx[0..n],
         &mut gy[0..m],
     );
-    lines::number(b"", line, got);
+    lines::number(rt, b"", line, got)?;
     if fields::has(line, b"first") {
-        lines::flat(line, &gx, n, 2001);
-        lines::flat(line, &gy, m, 3001);
-        return;
+        lines::flat(rt, line, &gx, n, 2001)?;
+        return lines::flat(rt, line, &gy, m, 3001);
     }
-    lines::numbers(b"  gx", line, b"gx", b"gx-after", &gx, n);
-    lines::numbers(b"  gy", line, b"gy", b"gy-after", &gy, m);
+    lines::numbers(rt, b"  gx", line, b"gx", b"gx-after", &gx, n)?;
+    lines::numbers(rt, b"  gy", line, b"gy", b"gy-after", &gy, m)
 }
 
 // All of the output is shown, also where less of it was lent.
-fn magnitude(line: &[u8]) {
+fn magnitude(rt: &impl Print, line: &[u8]) -> io::Result<()> {
     let mut gx = [0i16; ROOM];
     let mut gy = [0i16; ROOM];
     let mut out = [0.0f32; ROOM];
@@ -112,18 +113,18 @@ fn magnitude(line: &[u8]) {
         height(line),
         &mut out[0..k],
     );
-    lines::floats_or_number(line, got, &out, all);
+    lines::floats_or_number(rt, line, got, &out, all)
 }
 
-fn suppression(line: &[u8]) {
+fn suppression(rt: &impl Print, line: &[u8]) -> io::Result<()> {
     let mut gx = [0i16; ROOM];
     let mut gy = [0i16; ROOM];
     let n = fields::numbers(line, b"gx", &mut gx);
     let m = fields::numbers(line, b"gy", &mut gy);
-    suppress(line, &gx[0..n], &gy[0..m]);
+    suppress(rt, line, &gx[0..n], &gy[0..m])
 }
 
-fn suppress(line: &[u8], gx: &[i16], gy: &[i16]) {
+fn suppress(rt: &impl Print, line: &[u8], gx: &[i16], gy: &[i16]) -> io::Result<()> {
     let mut magnitude = [0.0f32; ROOM];
     let mut out = [0.0f32; ROOM];
     let n = fields::floats(line, b"magnitude", &mut magnitude);
@@ -137,5 +138,5 @@ fn suppress(line: &[u8], gx: &[i16], gy: &[i16]) {
         height(line),
         &mut out[0..k],
     );
-    lines::floats_or_number(line, got, &out, all);
+    lines::floats_or_number(rt, line, got, &out, all)
 }

@@ -1,5 +1,7 @@
 // Runs the calls of the library, through its exports, on 01's examples and on every refusal: the cases stand in the file stdin, one to a
 // line, with what 01 wants of each. Each printed line has what was got and what is wanted.
+#![tactic(auto)]
+
 mod gradients;
 mod lines;
 mod magnitudes;
@@ -7,43 +9,42 @@ mod pictures;
 mod shape;
 
 use cases::fields::calls;
-use libc::STDIN_FILENO;
+use std::io;
+use std::io::Read;
 
-// More bytes than the file has.
-const TEXT: usize = 131072;
-
-fn main() {
-    let mut text = [0u8; TEXT];
-    let n = io::read_full(STDIN_FILENO, &mut text);
-    lines_of(&text[..n]);
+fn main(rt: HostRuntime) -> io::Result<()> {
+    let mut text = Vec::new(rt.alloc());
+    rt.stdin().read_to_end(&mut text)?;
+    lines_of(&rt, &text)
 }
 
-fn lines_of(text: &[u8]) {
+fn lines_of(rt: &impl Print, text: &[u8]) -> io::Result<()> {
     let mut at = 0;
     while at < text.len() {
         let next = cases::next_line(text, at);
         if next <= at {
-            return;
+            return Ok(());
         }
         if text.len() < next {
-            return;
+            return Ok(());
         }
-        example(&text[at..next]);
+        example(rt, &text[at..next])?;
         at = next;
     }
+    Ok(())
 }
 
-fn example(line: &[u8]) {
+fn example(rt: &impl Print, line: &[u8]) -> io::Result<()> {
     if cases::starts_remark(line, 0) {
-        return;
+        return Ok(());
     }
-    cases::after_name(line, 0);
+    cases::after_name(rt, line, 0)?;
     if calls(line, b"heading") {
-        report::words(b"\n");
-        return;
+        return report::words(rt, b"\n");
     }
-    if pictures::run(line) {
-        return;
+    if pictures::run(rt, line)? {
+        return Ok(());
     }
-    gradients::run(line);
+    gradients::run(rt, line)?;
+    Ok(())
 }

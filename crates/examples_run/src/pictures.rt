@@ -13,22 +13,23 @@ use kelontsira::filtering::{
 };
 use median::MedianFilter;
 use rules::Size;
+use std::io;
 
 // Whether the case is one of these.
-pub(crate) fn run(line: &[u8]) -> bool {
+pub(crate) fn run(rt: &impl Print, line: &[u8]) -> io::Result<bool> {
     if calls(line, b"resolve_coord") {
-        resolved(line);
-        return true;
+        resolved(rt, line)?;
+        return Ok(true);
     }
     if fields::has(line, b"work") {
-        blur(line);
-        return true;
+        blur(rt, line)?;
+        return Ok(true);
     }
     if is_unweighted(line) | calls(line, b"apply_kernel") {
-        picture(line);
-        return true;
+        picture(rt, line)?;
+        return Ok(true);
     }
-    false
+    Ok(false)
 }
 
 fn is_unweighted(line: &[u8]) -> bool {
@@ -36,15 +37,17 @@ fn is_unweighted(line: &[u8]) -> bool {
 }
 
 // Where a coordinate is read; 1000 is nowhere, 2000 refused.
-fn resolved(line: &[u8]) {
+fn resolved(rt: &impl Print, line: &[u8]) -> io::Result<()> {
     let side = fields::size(line, b"side");
     let mut place = 0;
     let refusal = kelontsira_resolve_coord(coordinate(line), side, border(line), &mut place);
     report::number(
+        rt,
         b"",
         told(refusal, place, side),
         cases::wide(fields::number(line, b"place")),
-    );
+    )?;
+    Ok(())
 }
 
 fn told(refusal: u8, place: usize, side: usize) -> u64 {
@@ -74,32 +77,31 @@ fn signed(bits: u32) -> i64 {
     -1 - ((0xffff_ffff - bits) as i64)
 }
 
-fn picture(line: &[u8]) {
+fn picture(rt: &impl Print, line: &[u8]) -> io::Result<()> {
     let mut pixels = [0u8; ROOM];
     let mut out = [0u8; ROOM];
     let n = fields::bytes(line, b"pixels", &mut pixels);
     let m = fields::bytes(line, b"out", &mut out);
     let got = called(line, &pixels[0..n], &mut out[0..m]);
-    left(line, got, &out, m);
+    left(rt, line, got, &out, m)
 }
 
-fn left(line: &[u8], got: u8, out: &[u8; ROOM], n: usize) {
+fn left(rt: &impl Print, line: &[u8], got: u8, out: &[u8; ROOM], n: usize) -> io::Result<()> {
     let stage = calls(line, b"sobel") | calls(line, b"median");
     if fields::has(line, b"first") {
-        lines::number(b"", line, got);
+        lines::number(rt, b"", line, got)?;
         if stage {
-            lines::largest(line, out, n, b"  all the same", b"  past the picture");
+            lines::largest(rt, line, out, n, b"  all the same", b"  past the picture")?;
         } else {
-            lines::largest(line, out, n, b"  all copied", b"  kept from there on");
+            lines::largest(rt, line, out, n, b"  all copied", b"  kept from there on")?;
         }
-        return;
+        return Ok(());
     }
     if stage {
-        lines::number(b"", line, got);
-        lines::bytes(b"  its bytes", line, b"out", b"out-after", out, n);
-        return;
+        lines::number(rt, b"", line, got)?;
+        return lines::bytes(rt, b"  its bytes", line, b"out", b"out-after", out, n);
     }
-    lines::bytes_or_number(line, got, out, n);
+    lines::bytes_or_number(rt, line, got, out, n)
 }
 
 fn called(line: &[u8], pixels: &[u8], out: &mut [u8]) -> u8 {
@@ -167,21 +169,21 @@ fn kernel(line: &[u8], pixels: &[u8], out: &mut [u8]) -> u8 {
 }
 
 // The calls with a work buffer, all of which is shown, also where less of it was lent.
-fn blur(line: &[u8]) {
+fn blur(rt: &impl Print, line: &[u8]) -> io::Result<()> {
     let mut pixels = [0u8; ROOM];
     let n = fields::bytes(line, b"pixels", &mut pixels);
-    lend(line, &pixels[0..n]);
+    lend(rt, line, &pixels[0..n])
 }
 
-fn lend(line: &[u8], pixels: &[u8]) {
+fn lend(rt: &impl Print, line: &[u8], pixels: &[u8]) -> io::Result<()> {
     let mut work = [0.0f32; ROOM];
     let mut out = [0u8; ROOM];
     let k = fields::floats(line, b"work", &mut work);
     let n = fields::lent(line, b"work-lent", k);
     let m = fields::bytes(line, b"out", &mut out);
     let got = blurred(line, pixels, &mut work[0..n], &mut out[0..m]);
-    lines::bytes_or_number(line, got, &out, m);
-    lines::floats(b"  work", line, b"work", b"work-after", &work, k);
+    lines::bytes_or_number(rt, line, got, &out, m)?;
+    lines::floats(rt, b"  work", line, b"work", b"work-after", &work, k)
 }
 
 fn blurred(line: &[u8], pixels: &[u8], work: &mut [f32], out: &mut [u8]) -> u8 {

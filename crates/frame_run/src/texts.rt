@@ -4,26 +4,32 @@ ghost use Rattle.std.specs.Prelude.{◌≤◌};
 use crate::building::{printed, prints};
 use cases::{count, wide};
 use frame::{FILE_ROOM, TEXT_ROOM};
+use std::io;
 
 // The text, beside the number that is wanted: 0 is a file that is accepted.
-pub(crate) fn shown(case: &[u32; 80], file: &[u8; FILE_ROOM]) {
+pub(crate) fn shown(rt: &impl Print, case: &[u32; 80], file: &[u8; FILE_ROOM]) -> io::Result<()> {
     let mut text = [0u8; TEXT_ROOM];
     let m = printed(file, count(case[1]), &mut text);
-    report::part(b": wanted ", wide(case[2]));
-    report::words(b" got ");
-    report::words(&text[..m]);
+    report::part(rt, b": wanted ", wide(case[2]))?;
+    report::words(rt, b" got ")?;
+    report::words(rt, &text[..m])
 }
 
 // The text's length; past it what was lent is left as it was.
-pub(crate) fn measured(case: &[u32; 80], file: &[u8; FILE_ROOM]) {
+pub(crate) fn measured(
+    rt: &impl Print,
+    case: &[u32; 80],
+    file: &[u8; FILE_ROOM],
+) -> io::Result<()> {
     let mut text = [7u8; TEXT_ROOM];
     let m = printed(file, count(case[1]), &mut text);
-    report::number(b"", m as u64, wide(case[2]));
-    left(&text, m);
+    report::number(rt, b"", m as u64, wide(case[2]))?;
+    left(rt, &text, m)
 }
 
-fn left(text: &[u8; TEXT_ROOM], m: usize) {
-    report::yes(b"  and nothing past them", sevens_from(text, m));
+fn left(rt: &impl Print, text: &[u8; TEXT_ROOM], m: usize) -> io::Result<()> {
+    report::yes(rt, b"  and nothing past them", sevens_from(text, m))?;
+    Ok(())
 }
 
 fn sevens_from(text: &[u8], m: usize) -> bool {
@@ -34,8 +40,9 @@ fn sevens_from(text: &[u8], m: usize) -> bool {
 }
 
 // How many lengths below the file's own break the layout.
-pub(crate) fn shorter(case: &[u32; 80], file: &[u8; FILE_ROOM]) {
-    report::number(b"", breaches_below(file, count(case[1])), wide(case[2]));
+pub(crate) fn shorter(rt: &impl Print, case: &[u32; 80], file: &[u8; FILE_ROOM]) -> io::Result<()> {
+    report::number(rt, b"", breaches_below(file, count(case[1])), wide(case[2]))?;
+    Ok(())
 }
 
 fn breaches_below(file: &[u8; FILE_ROOM], end: usize) -> u64 {

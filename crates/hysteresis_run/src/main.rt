@@ -1,35 +1,39 @@
 // Runs the walk on 01's examples, on slices of every size, on forged states and on every refusal: the cases stand in the file stdin, one to
 // a line, with what 01 wants of each. Each line has what was got and what is wanted.
+#![tactic(auto)]
+
 mod kept;
 mod sizes;
 mod starts;
 mod states;
 mod walks;
 
-use libc::STDIN_FILENO;
+use std::io;
+use std::io::Read;
 
-fn main() {
-    let mut text = io::large_buffer();
-    let n = io::read_full(STDIN_FILENO, &mut text);
-    lines_of(&text[..n]);
+fn main(rt: HostRuntime) -> io::Result<()> {
+    let mut text = Vec::new(rt.alloc());
+    rt.stdin().read_to_end(&mut text)?;
+    lines_of(&rt, &text)
 }
 
-fn lines_of(text: &[u8]) {
+fn lines_of(rt: &impl Print, text: &[u8]) -> io::Result<()> {
     let mut at = 0;
     while at < text.len() {
-        let case = cases::case(text, &mut at);
-        line(&case);
+        let case = cases::case(rt, text, &mut at)?;
+        line(rt, &case)?;
     }
+    Ok(())
 }
 
 // A line's first number says what its case is of.
-fn line(case: &[u32; 80]) {
+fn line(rt: &impl Print, case: &[u32; 80]) -> io::Result<()> {
     let kind = case[0];
     match kind {
-        1 => starts::run(case),
-        2 => states::run(case),
-        3 => walks::run(case),
-        4 => sizes::run(case),
-        _ => {}
+        1 => starts::run(rt, case),
+        2 => states::run(rt, case),
+        3 => walks::run(rt, case),
+        4 => sizes::run(rt, case),
+        _ => Ok(()),
     }
 }

@@ -1,16 +1,19 @@
 // Slices of every size over pictures of eight by eight.
 use crate::kept::finished;
 use rules::{Mapped, Size, Sliced, Thresholds, Walk};
+use std::io;
 
 // The case: how many pixels are joined, and the magnitudes.
-pub(crate) fn run(case: &[u32; 80]) {
+pub(crate) fn run(rt: &impl Print, case: &[u32; 80]) -> io::Result<()> {
     let mut magnitudes = [0.0f32; 64];
     read(case, &mut magnitudes);
     report::number(
+        rt,
         b", slices of 1 to 66 that went wrong",
         wrong_budgets(&magnitudes, cases::count(case[1])),
         0,
-    );
+    )?;
+    Ok(())
 }
 
 fn read(case: &[u32], magnitudes: &mut [f32]) {

@@ -3,9 +3,10 @@ use crate::kept::{MARKS_BEFORE, STACK_BEFORE, state_lines};
 use cases::{at_most, count};
 use rules::codes::float;
 use rules::{Size, Started, Thresholds};
+use std::io;
 
 // The case: the sides, how many magnitudes there are (all 5), low and high, how many marks and how many places, and the number.
-pub(crate) fn run(case: &[u32; 80]) {
+pub(crate) fn run(rt: &impl Print, case: &[u32; 80]) -> io::Result<()> {
     let n = at_most(case[3], 10);
     let m = at_most(case[6], 10);
     let k = at_most(case[7], 10);
@@ -21,7 +22,7 @@ pub(crate) fn run(case: &[u32; 80]) {
         &mut marks[0..m],
         &mut stack[0..k],
     );
-    after(case, started, &marks, &stack);
+    after(rt, case, started, &marks, &stack)
 }
 
 fn size_of(case: &[u32; 80]) -> Size {
@@ -38,9 +39,16 @@ fn thresholds_of(case: &[u32; 80]) -> Thresholds {
     }
 }
 
-fn after(case: &[u32; 80], started: Started, marks: &[u8; 10], stack: &[u32; 10]) {
-    report::number(b"", started.refusal as u64, cases::wide(case[8]));
-    state_lines(started.walk, 0, 0, 0);
-    report::bytes(b"  marks", marks, &MARKS_BEFORE);
-    report::places(b"  stack", stack, &STACK_BEFORE);
+fn after(
+    rt: &impl Print,
+    case: &[u32; 80],
+    started: Started,
+    marks: &[u8; 10],
+    stack: &[u32; 10],
+) -> io::Result<()> {
+    report::number(rt, b"", started.refusal as u64, cases::wide(case[8]))?;
+    state_lines(rt, started.walk, 0, 0, 0)?;
+    report::bytes(rt, b"  marks", marks, &MARKS_BEFORE)?;
+    report::places(rt, b"  stack", stack, &STACK_BEFORE)?;
+    Ok(())
 }

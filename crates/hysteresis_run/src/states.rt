@@ -2,13 +2,14 @@
 use crate::kept::{bytes_line, places_line, state_lines};
 use cases::{at_most, count, wide};
 use rules::{Mapped, Sliced, Walk};
+use std::io;
 
 // The case: the state's sides and what is pending, the budget, how many marks, places and entries of the map are lent, the slice's number
 // and the map's, the five marks from 10 on and the five places from 15, the slice's takes and what is pending after it, the map from 22 on,
 // and the marks from 27 and the places from 32 after the slice.
-pub(crate) fn run(case: &[u32; 80]) {
-    map(case);
-    slice(case);
+pub(crate) fn run(rt: &impl Print, case: &[u32; 80]) -> io::Result<()> {
+    map(rt, case)?;
+    slice(rt, case)
 }
 
 fn walk_of(case: &[u32; 80]) -> Walk {
@@ -33,7 +34,7 @@ fn stack_of(case: &[u32; 80]) -> [u32; 5] {
     [case[15], case[16], case[17], case[18], case[19]]
 }
 
-fn map(case: &[u32; 80]) {
+fn map(rt: &impl Print, case: &[u32; 80]) -> io::Result<()> {
     let walk = walk_of(case);
     let m = at_most(case[5], 5);
     let k = at_most(case[6], 5);
@@ -42,16 +43,16 @@ fn map(case: &[u32; 80]) {
     let stack = stack_of(case);
     let mut out = [91u8, 92, 93, 94, 95];
     let asked = hysteresis::map(walk, &marks[0..m], &stack[0..k], &mut out[0..n]);
-    after_map(case, asked, &out);
+    after_map(rt, case, asked, &out)
 }
 
-fn after_map(case: &[u32; 80], asked: Mapped, out: &[u8; 5]) {
-    report::number(b"", asked.refusal as u64, wide(case[9]));
-    state_lines(asked.walk, case[1], case[2], case[3]);
-    bytes_line(b"  map", out, case, 22);
+fn after_map(rt: &impl Print, case: &[u32; 80], asked: Mapped, out: &[u8; 5]) -> io::Result<()> {
+    report::number(rt, b"", asked.refusal as u64, wide(case[9]))?;
+    state_lines(rt, asked.walk, case[1], case[2], case[3])?;
+    bytes_line(rt, b"  map", out, case, 22)
 }
 
-fn slice(case: &[u32; 80]) {
+fn slice(rt: &impl Print, case: &[u32; 80]) -> io::Result<()> {
     let walk = walk_of(case);
     let budget = count(case[4]);
     let m = at_most(case[5], 5);
@@ -59,13 +60,24 @@ fn slice(case: &[u32; 80]) {
     let mut marks = marks_of(case);
     let mut stack = stack_of(case);
     let made = hysteresis::slice(walk, budget, &mut marks[0..m], &mut stack[0..k]);
-    after_slice(case, made, &marks, &stack);
+    after_slice(rt, case, made, &marks, &stack)
 }
 
-fn after_slice(case: &[u32; 80], made: Sliced, marks: &[u8; 5], stack: &[u32; 5]) {
-    report::number(b"  slice of the same", made.refusal as u64, wide(case[8]));
-    report::number(b"  takes", made.takes as u64, wide(case[20]));
-    state_lines(made.walk, case[1], case[2], case[21]);
-    bytes_line(b"  marks", marks, case, 27);
-    places_line(b"  stack", stack, case, 32);
+fn after_slice(
+    rt: &impl Print,
+    case: &[u32; 80],
+    made: Sliced,
+    marks: &[u8; 5],
+    stack: &[u32; 5],
+) -> io::Result<()> {
+    report::number(
+        rt,
+        b"  slice of the same",
+        made.refusal as u64,
+        wide(case[8]),
+    )?;
+    report::number(rt, b"  takes", made.takes as u64, wide(case[20]))?;
+    state_lines(rt, made.walk, case[1], case[2], case[21])?;
+    bytes_line(rt, b"  marks", marks, case, 27)?;
+    places_line(rt, b"  stack", stack, case, 32)
 }

@@ -1,11 +1,12 @@
 // One case: its six numbers and its four lists, and the line that says whether it agrees.
 use crate::{filters, gradients, walks};
+use std::io;
 
 // No list of the file is longer.
 pub(crate) const LIST: usize = 800;
 
 // The numbers of a case. What p and q mean is its stage's own.
-#[derive(Drop)]
+#[derive(Clone, Copy)]
 pub(crate) struct Case {
     pub(crate) stage: usize,
     pub(crate) width: usize,
@@ -16,7 +17,7 @@ pub(crate) struct Case {
 }
 
 // Reads the case at a place, and runs it.
-pub(crate) fn run(text: &[u8], from: usize) {
+pub(crate) fn run(rt: &impl Print, text: &[u8], from: usize) -> io::Result<()> {
     let mut at = from;
     let case = numbers(text, &mut at);
     let mut one = [0u32; LIST];
@@ -27,8 +28,9 @@ pub(crate) fn run(text: &[u8], from: usize) {
     let twos = cases::list(text, &mut at, &mut two);
     let threes = cases::list(text, &mut at, &mut three);
     let wants = cases::list(text, &mut at, &mut wanted);
-    say(case);
+    say(rt, case)?;
     report::yes(
+        rt,
         b"",
         replay(
             case,
@@ -37,7 +39,8 @@ pub(crate) fn run(text: &[u8], from: usize) {
             &three[0..threes],
             &wanted[0..wants],
         ),
-    );
+    )?;
+    Ok(())
 }
 
 // The six numbers of a case.
@@ -53,11 +56,11 @@ fn numbers(text: &[u8], at: &mut usize) -> Case {
 }
 
 // The beginning of the case's line.
-fn say(case: Case) {
-    report::part(b"stage ", case.stage as u64);
-    report::part(b", ", case.width as u64);
-    report::part(b" by ", case.height as u64);
-    report::part(b", border ", case.border as u64);
+fn say(rt: &impl Print, case: Case) -> io::Result<()> {
+    report::part(rt, b"stage ", case.stage as u64)?;
+    report::part(rt, b", ", case.width as u64)?;
+    report::part(rt, b" by ", case.height as u64)?;
+    report::part(rt, b", border ", case.border as u64)
 }
 
 fn replay(case: Case, one: &[u32], two: &[u32], three: &[u32], wanted: &[u32]) -> bool {

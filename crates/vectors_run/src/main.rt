@@ -1,28 +1,29 @@
 // Replays a sample of the vendor's answers, which `oracle/run vectors` wrote to the file stdin: each case goes through the exports of
 // `kelontsira`, and what they answer and leave is compared with what the vendor's Rust gave. One line a case: 1 where all agrees.
+#![tactic(auto)]
+
 mod case;
 mod filters;
 mod gradients;
 mod lists;
 mod walks;
 
-use libc::STDIN_FILENO;
+use std::io;
+use std::io::Read;
 
-// More bytes than the file has.
-const ROOM: usize = 262144;
-
-fn main() {
-    let mut text = [0u8; ROOM];
-    let n = io::read_full(STDIN_FILENO, &mut text);
-    lines_of(&text[..n]);
+fn main(rt: HostRuntime) -> io::Result<()> {
+    let mut text = Vec::new(rt.alloc());
+    rt.stdin().read_to_end(&mut text)?;
+    lines_of(&rt, &text)
 }
 
-fn lines_of(text: &[u8]) {
+fn lines_of(rt: &impl Print, text: &[u8]) -> io::Result<()> {
     let mut at = 0;
     while at < text.len() {
         if !cases::starts_remark(text, at) {
-            case::run(text, at);
+            case::run(rt, text, at)?;
         }
         at = cases::next_line(text, at);
     }
+    Ok(())
 }

@@ -1,0 +1,12 @@
+-- `same_numbers` meets its contract: its test so far, entry by entry, once the lengths are the same. Assumes nothing.
+use Rattle.std.proofs.Common.{length, ◌-◌, eqb, get_or}
+use Rattle.std.proofs.Common.{of_z, pos}
+use Rattle.std.specs.Int.{w16}
+use Rattle.report.proofs.Every.{Tested}
+use Rattle.report.proofs.same_numbers.Given as goal
+
+abbrev pub invariant-loop-i : goal.invariant-loop-i
+invariant-loop-i l = Tested (length l.got) l.i (λ j. eqb (of_z w16 (get_or l.got j (pos 0))) (of_z w16 (get_or l.wanted j (pos 0)))) l.same
+
+abbrev pub decreases-loop-i : goal.decreases-loop-i
+decreases-loop-i l = length l.got - l.i
