@@ -211,7 +211,7 @@ fn name_library() {
     println!("cargo:rerun-if-changed={}", archive.display());
     if !archive.is_file() {
         stop(&format!(
-            "{} is missing; build it with `rt staticlib kelontsira`, or set KELONTSIRA_LIB to its folder",
+            "{} is missing; build it with `tools/staticlib`, or set KELONTSIRA_LIB to its folder",
             archive.display()
         ));
     }
