@@ -23,7 +23,7 @@ overflow_mul-item c =
 
 pub overflow_mul-a : goal.overflow_mul-a
 overflow_mul-a c =
-    -- and so is the picture's
+    -- the picture's area is small
     let r = row_of_picture _ _ _ c.requires.0.picture c.requires.1.row in
     omega (arith, r)
 
