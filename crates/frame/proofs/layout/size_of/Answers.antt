@@ -1,0 +1,6 @@
+-- `size_of` meets its contract. Assumes nothing.
+use borrow.Author.Rules.{rules}
+use Rattle.frame.proofs.layout.size_of.Goals as goal
+
+pub returns : goal.returns
+returns c = rw (c.wide.ensures.0, c.wide-2.ensures.0)
