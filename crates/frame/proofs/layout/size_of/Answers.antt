@@ -1,5 +1,4 @@
 -- `size_of` meets its contract. Assumes nothing.
-use borrow.Author.Rules.{rules}
 use Rattle.frame.proofs.layout.size_of.Goals as goal
 
 pub returns : goal.returns

@@ -1,5 +1,4 @@
 -- `thresholds_of` meets its contract. Assumes nothing.
-use borrow.Author.Rules.{rules}
 use Rattle.frame.proofs.layout.thresholds_of.Goals as goal
 
 pub returns : goal.returns

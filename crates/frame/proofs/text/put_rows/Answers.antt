@@ -1,5 +1,5 @@
 -- `put_rows` meets its contract: row after row fills the rows' places. Assumes nothing.
-use Rattle.std.proofs.Common.{◌+◌, ◌-◌, ◌*◌, ◌<◌, ◌≤◌, ◌≡◌, refl, ◌∙◌, length, arith, rules}
+use Rattle.std.proofs.Common.{◌+◌, ◌*◌, ◌≡◌, refl, ◌∙◌, arith, rules}
 use native.Mathlib.Nat.{zero-mul}
 use Rattle.rules.proofs.Fill.{filling_start, filling_end}
 use Rattle.rules.proofs.Grid.{part_length}
