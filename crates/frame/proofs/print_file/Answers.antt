@@ -8,6 +8,7 @@ use Rattle.frame.proofs.print_file.Goals as goal
 pub returns-then-breach : goal.returns-then-breach
 returns-then-breach c = written _ _ _ c.put_refused.ensures (breached _ (sym c.breach.ensures ∙ c.if-breach.true))
 
+-- past the first test the layout is kept, and grants what `laid` says
 pub wide-taps-requires : goal.wide-taps-requires
 wide-taps-requires c =
     let keeps : breach c.args.file.now ≡ false = sym c.breach.ensures ∙ c.if-breach.false in

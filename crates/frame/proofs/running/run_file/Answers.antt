@@ -4,6 +4,7 @@ use Rattle.frame.proofs.Breaches.{laid}
 use Rattle.frame.proofs.Printouts.{pixels_part, taps_part}
 use Rattle.frame.proofs.running.run_file.Goals as goal
 
+-- what the layout grants (`laid`)
 pub decode_taps-requires : goal.decode_taps-requires
 decode_taps-requires c = (omega (arith, laid _ c.requires.keeps, c.requires.counted), c.requires.few)
 

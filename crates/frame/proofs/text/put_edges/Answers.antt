@@ -4,6 +4,7 @@ use Rattle.rules.specs.Frame.{edges_text}
 use Rattle.frame.proofs.Writing.{lengths, length_edges, head_and_rows}
 use Rattle.frame.proofs.text.put_edges.Goals as goal
 
+-- the text has room for the head and the rows
 pub put_head-at-requires : goal.put_head-at-requires
 put_head-at-requires c = omega (arith, length_edges c.args.size c.args.count, lengths c.requires.small, c.requires.room)
 

@@ -4,6 +4,7 @@ use Rattle.rules.specs.Frame.{newline, space}
 use Rattle.frame.proofs.Writing.{Put, field_more, edges_word, edges_fields, length_edges}
 use Rattle.frame.proofs.text.put_head.Goals as goal
 
+-- what the head takes
 pub put_word-word-requires : goal.put_word-word-requires
 put_word-word-requires c = omega (arith, length_edges c.args.size c.args.count, c.requires)
 

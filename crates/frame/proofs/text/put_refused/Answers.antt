@@ -5,6 +5,7 @@ use Rattle.frame.proofs.Decimals.{four_digits}
 use Rattle.frame.proofs.Writing.{Put, field_more, refused_word, refused_fields, length_refused, from_first}
 use Rattle.frame.proofs.text.put_refused.Goals as goal
 
+-- the text has room for the word and the number
 pub put_field-requires : goal.put_field-requires
 put_field-requires c =
     omega (arith, length_refused c.args.number, four_digits c.args.number (omega arith), c.requires, c.put_word-at.ensures.0, c.put_word-at.auto.text)

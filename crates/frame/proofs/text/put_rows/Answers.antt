@@ -12,12 +12,14 @@ overflow_add-line c = omega (arith, c.requires.wide)
 pub loop-y-init : goal.loop-y-init
 loop-y-init c = (search rules, rw (zero-mul (c.args.size.width + 1)) filling_start)
 
+-- row y stands within the map
 pub overflow_mul-from : goal.overflow_mul-from
 overflow_mul-from c = omega (arith, source _ _ _ c.requires c.loop-y-test.true)
 
 pub overflow_add-to : goal.overflow_add-to
 overflow_add-to c = omega (arith, source _ _ _ c.requires c.loop-y-test.true)
 
+-- and its line within the text
 pub overflow_mul-at : goal.overflow_mul-at
 overflow_mul-at c = omega (arith, room _ _ _ c.requires c.loop-y-test.true)
 
