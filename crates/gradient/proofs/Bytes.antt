@@ -1,9 +1,9 @@
 -- A block of Sobel's bytes, and of their sums. Assumes nothing.
 use mathlib.Core.Path.{◌≡◌, refl, ap, ◌∙◌}
 use mathlib.Core.List.{List}
-use Prim.Native.Nat.{ℕ, ◌<◌, ◌≤◌}
+use Prim.Native.Nat.{ℕ, ◌≤◌}
 use native.Mathlib.Omega.{arith}
-use lib.ListN.{length, get_or, drop_of_length-le}
+use lib.ListN.{length, drop_of_length-le}
 use Rattle.rules.specs.Picture.{filled}
 use Rattle.rules.specs.Root.{sobel_byte}
 use Rattle.rules.proofs.Fill.{filled_at, filled_by, recount}

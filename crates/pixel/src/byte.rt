@@ -11,6 +11,7 @@ use crate::root::first_guess;
 use std::num::wrapping_add_u16;
 
 // S in 16 bits, of which eight fit where four of 32 do. Over the last end every number has byte 255, so one will do for all.
+#[tactic(auto, unfolding(crate::specs::Halving::held))]
 fn held(s: u32) -> u16
     ensures { result ≡ held s }
 {
@@ -74,6 +75,7 @@ pub fn sobel_byte(s: u32) -> u8
 // ---- A guess, and its test by the table.
 
 // The lowest byte of a float's bits.
+#[tactic(auto, unfolding(crate::specs::Guess::low_byte))]
 fn low_byte(z: f32) -> u8
     ensures { result ≡ low_byte z }
 {
@@ -85,6 +87,7 @@ fn low_byte(z: f32) -> u8
 
 // Tried on every s that is ever held, this is the byte itself (`guess_holds`); no proof leans on it. Two of Heron's steps; 2^23 more, and the
 // lowest bits are the nearest whole number.
+#[tactic(auto, unfolding(crate::specs::Guess::byte_guess))]
 pub fn guess(s: u16) -> u8
     ensures { result ≡ byte_guess s }
 {
@@ -95,6 +98,7 @@ pub fn guess(s: u16) -> u8
 }
 
 // Where the table has the end to test a byte by: its own; for 255, which has none, the last.
+#[tactic(auto, unfolding(crate::specs::Halving::place_of))]
 pub fn place_of(byte: u8) -> usize
     ensures { (result ≡ place_of byte) × (result ≤ 254) }
 {

@@ -19,6 +19,7 @@ fn capped(s: u32) -> u16
 }
 
 // A float within 5 in 100 of the root of f, from its bits.
+#[tactic(auto, unfolding(crate::specs::Guess::first_guess))]
 pub(crate) fn first_guess(f: f32) -> f32
     ensures { result ≡ first_guess f }
 {
@@ -30,6 +31,7 @@ pub(crate) fn first_guess(f: f32) -> f32
 
 // Tried on every s, this is the magnitude itself (`guess_holds`), so that mending finds nothing to do; no proof leans on it. Two of Heron's
 // steps, and a third from the rest of the square, worked out in two halves of the digits since one f32 cannot hold it.
+#[tactic(auto, unfolding(crate::specs::Guess::guess_of))]
 pub fn guess(s: u32) -> f32
     ensures { result ≡ guess_of s }
 {

@@ -31,13 +31,14 @@ pub fn sector(gx: i16, gy: i16) -> u8
 }
 
 // A step to a neighbour: columns to the right, rows downwards.
-#[derive(Drop)]
+#[derive(Clone, Copy)]
 pub struct Offset {
     pub dx: i8,
     pub dy: i8,
 }
 
 // The first neighbour of a sector, as the table has it; the second is its opposite (01.Gradient.13 to 01.Gradient.17, 02.2.3).
+#[tactic(auto, unfolding(rules::specs::Sector::neighbours))]
 pub fn first_neighbour(sector: u8) -> Offset
     ensures { offset result.dx result.dy ≡ (neighbours sector).0 }
 {

@@ -1,9 +1,0 @@
--- `byte_at` meets its contract: a byte that the row does not have is 0. Assumes nothing.
-use borrow.Author.Rules.{rules}
-use mathlib.Core.Path.{sym}
-use lib.ListN.{get_or-eq_default}
-use Rattle.gradient.proofs.window.byte_at.Statement.{statement}
-use Rattle.gradient.proofs.window.byte_at.Tie as tie
-
-pub byte-at-spec : {M : Type 1} → statement M
-byte-at-spec = tie.close (tie.spec (λ c. search rules) (λ c. search rules) (λ c. sym (get_or-eq_default c.before.args.row.now 0 c.if1.false)))
