@@ -3,9 +3,7 @@ use borrow.Author.Rules.{rules}
 use native.Mathlib.Omega.{arith}
 use native.Mathlib.Nat.{zero-add}
 use mathlib.Core.Path.{◌≡◌}
-use Prim.Native.Nat.{◌-◌, ◌≤◌}
 use lib.ListN.{length}
-use Rattle.median.specs.Counts.{Holds}
 use Rattle.median.proofs.Windows.{counts_of, put_holds}
 use Rattle.median.proofs.first_window.Goals as goal
 

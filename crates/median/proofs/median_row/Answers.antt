@@ -1,5 +1,4 @@
 -- `median_row` meets its contract: the places of its window's rows, then the row. Assumes nothing.
-use borrow.Author.Rules.{rules}
 use native.Mathlib.Omega.{arith}
 use Rattle.median.proofs.Windows.{part_count, part_about}
 use Rattle.median.proofs.median_row.Goals as goal

@@ -1,11 +1,8 @@
 -- `median_rows` meets its contract: no columns, or row by row. Assumes nothing.
-use borrow.Author.Rules.{rules}
 use native.Mathlib.Omega.{arith}
 use native.Mathlib.Nat.{zero-mul}
-use Prim.Native.Nat.{◌-◌}
 use Rattle.rules.specs.Picture.{tabulate}
-use Rattle.border.proofs.Writing.{Rows, rows_start, rows_more, rows_all}
-use Rattle.median.specs.Counts.{median_of}
+use Rattle.border.proofs.Writing.{rows_start, rows_more, rows_all}
 use Rattle.median.proofs.median_rows.Goals as goal
 
 pub returns-then-size-eq0 : goal.returns-then-size-eq0

@@ -1,10 +1,6 @@
 -- `median_rows` meets its contract: no columns, or row by row. Assumes nothing.
-use borrow.Author.Rules.{rules}
-use native.Mathlib.Omega.{arith}
-use native.Mathlib.Nat.{zero-mul}
 use Prim.Native.Nat.{◌-◌}
-use Rattle.rules.specs.Picture.{tabulate}
-use Rattle.border.proofs.Writing.{Rows, rows_start, rows_more, rows_all}
+use Rattle.border.proofs.Writing.{Rows}
 use Rattle.median.specs.Counts.{median_of}
 use Rattle.median.proofs.median_rows.Given as goal
 

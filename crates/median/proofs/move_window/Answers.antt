@@ -1,8 +1,5 @@
 -- `move_window` meets its contract: one column out, one in, and how many stay below the value. Assumes nothing.
-use borrow.Author.Rules.{rules}
 use native.Mathlib.Omega.{arith}
-use Prim.Native.Nat.{ℕ, ◌<◌}
-use lib.ListN.{get_or}
 use Rattle.median.proofs.Windows.{counts_of, left_counted, less-counts, moved}
 use Rattle.median.proofs.move_window.Goals as goal
 

@@ -1,6 +1,5 @@
 -- `one_more` meets its contract, by its test. Assumes nothing.
 use native.Mathlib.Omega.{arith}
-use borrow.Author.Rules.{rules}
 use borrow.Author.Tests.{lt-ltb, le-ltb}
 use Rattle.median.proofs.one_more.Goals as goal
 

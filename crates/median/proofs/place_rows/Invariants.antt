@@ -1,8 +1,6 @@
 -- `place_rows` meets its contract: a filling loop. Assumes nothing.
-use borrow.Author.Rules.{rules}
-use native.Mathlib.Omega.{arith}
 use Prim.Native.Nat.{◌-◌}
-use Rattle.rules.proofs.Fill.{Filling, filling_start, filling_more, filling_end}
+use Rattle.rules.proofs.Fill.{Filling}
 use Rattle.median.specs.Counts.{row_place}
 use Rattle.median.proofs.place_rows.Given as goal
 

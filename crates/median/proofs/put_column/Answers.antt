@@ -1,16 +1,14 @@
 -- `put_column` meets its contract, sample by sample. Assumes nothing.
-use borrow.Author.Rules.{rules}
 use native.Mathlib.Omega.{arith}
-use mathlib.Core.Path.{◌≡◌}
-use Prim.Native.Nat.{ℕ, ◌+◌, ◌-◌, ◌<◌}
+use Prim.Native.Nat.{ℕ, ◌<◌}
 use lib.Dec.{ltb}
 use lib.ListN.{length}
 use Rattle.rules.specs.Picture.{tally}
 use Rattle.rules.specs.Limits.{max_side}
 use Rattle.rules.proofs.Tallies.{tally_all}
 use Rattle.border.proofs.Reading.{read_byte}
-use Rattle.median.specs.Counts.{column_at, belows}
-use Rattle.median.proofs.Counting.{Changing, changing_start, changing_more, changing_all, put_small, belows_more}
+use Rattle.median.specs.Counts.{column_at}
+use Rattle.median.proofs.Counting.{changing_start, changing_more, changing_all, put_small, belows_more}
 use Rattle.median.proofs.put_column.Goals as goal
 
 pub loop-j-init : goal.loop-j-init

@@ -1,10 +1,9 @@
 -- `select` meets its contract: down while too many are below, up while too few are. Assumes nothing.
-use borrow.Author.Rules.{rules}
 use native.Mathlib.Omega.{arith}
 use mathlib.Core.Path.{◌≡◌}
-use Prim.Native.Nat.{◌+◌, ◌-◌, ◌<◌, ◌≤◌}
+use Prim.Native.Nat.{◌+◌, ◌-◌, ◌<◌}
 use lib.ListN.{get_or}
-use Rattle.median.specs.Counts.{counted_below, Middle}
+use Rattle.median.specs.Counts.{counted_below}
 use Rattle.median.proofs.Counting.{one_down, one_up}
 use Rattle.median.proofs.select.Goals as goal
 

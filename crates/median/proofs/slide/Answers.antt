@@ -1,13 +1,11 @@
 -- `slide` meets its contract: at each pixel the counts are its window's, and the value that they select is its median. Assumes nothing.
-use borrow.Author.Rules.{rules}
 use native.Mathlib.Omega.{arith}
 use native.Mathlib.Nat.{mul-le-mul}
 use mathlib.Core.Path.{◌≡◌}
-use Prim.Native.Nat.{ℕ, ◌+◌, ◌-◌, ◌*◌, ◌<◌, ◌≤◌}
-use lib.ListN.{length, get_or}
+use Prim.Native.Nat.{◌+◌, ◌*◌, ◌≤◌}
+use lib.ListN.{length}
 use Rattle.rules.specs.Limits.{max_window}
-use Rattle.border.proofs.Writing.{Writing, writing_start, writing_more, writing_end, Row, row_of_picture}
-use Rattle.median.specs.Counts.{median_of, Holds, Middle}
+use Rattle.border.proofs.Writing.{writing_start, writing_more, writing_end, row_of_picture}
 use Rattle.median.proofs.Windows.{counts_of, all_counted, median_at_lem, no_columns, none_below}
 use Rattle.median.proofs.slide.Goals as goal
 
@@ -25,7 +23,7 @@ overflow_mul-item c =
 
 pub overflow_mul-a : goal.overflow_mul-a
 overflow_mul-a c =
-    -- and so is the picture's
+    -- the picture's area is small
     let r = row_of_picture _ _ _ c.requires.0.picture c.requires.1.row in
     omega (arith, r)
 

@@ -1,14 +1,8 @@
 -- `slide` meets its contract: at each pixel the counts are its window's, and the value that they select is its median. Assumes nothing.
-use borrow.Author.Rules.{rules}
-use native.Mathlib.Omega.{arith}
-use native.Mathlib.Nat.{mul-le-mul}
-use mathlib.Core.Path.{◌≡◌}
-use Prim.Native.Nat.{ℕ, ◌+◌, ◌-◌, ◌*◌, ◌<◌, ◌≤◌}
-use lib.ListN.{length, get_or}
-use Rattle.rules.specs.Limits.{max_window}
-use Rattle.border.proofs.Writing.{Writing, writing_start, writing_more, writing_end, Row, row_of_picture}
+use Prim.Native.Nat.{◌+◌, ◌-◌, ◌*◌}
+use lib.ListN.{length}
+use Rattle.border.proofs.Writing.{Writing}
 use Rattle.median.specs.Counts.{median_of, Holds, Middle}
-use Rattle.median.proofs.Windows.{counts_of, all_counted, median_at_lem, no_columns, none_below}
 use Rattle.median.proofs.slide.Given as goal
 
 abbrev pub invariant-loop-x : goal.invariant-loop-x

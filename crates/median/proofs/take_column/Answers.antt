@@ -1,14 +1,12 @@
 -- `take_column` meets its contract, sample by sample. Assumes nothing.
-use borrow.Author.Rules.{rules}
 use native.Mathlib.Omega.{arith}
-use mathlib.Core.Path.{◌≡◌}
-use Prim.Native.Nat.{ℕ, ◌+◌, ◌-◌, ◌<◌}
+use Prim.Native.Nat.{ℕ, ◌+◌, ◌<◌}
 use lib.Dec.{ltb}
 use lib.ListN.{length}
 use Rattle.rules.specs.Picture.{tally}
 use Rattle.border.proofs.Reading.{read_byte}
-use Rattle.median.specs.Counts.{column_at, belows}
-use Rattle.median.proofs.Counting.{Changing, changing_start, changing_more, changing_all, take_some, belows_more, tally_longer}
+use Rattle.median.specs.Counts.{column_at}
+use Rattle.median.proofs.Counting.{changing_start, changing_more, changing_all, take_some, belows_more, tally_longer}
 use Rattle.median.proofs.take_column.Goals as goal
 
 pub loop-j-init : goal.loop-j-init

@@ -5,7 +5,7 @@ use Rattle.rules.proofs.ByRows.{ByRows}
 use Rattle.gradient.proofs.components.gradient_rows.Given as goal
 
 abbrev pub invariant-loop-y : goal.invariant-loop-y
-invariant-loop-y l = 
+invariant-loop-y l =
     ByRows l.size l.y l.start (gradient_at gx_table l.size l.border l.pixels) l.initial.gx l.gx
     × ByRows l.size l.y l.start (gradient_at gy_table l.size l.border l.pixels) l.initial.gy l.gy
 

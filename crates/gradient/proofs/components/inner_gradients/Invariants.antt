@@ -6,7 +6,7 @@ use Rattle.gradient.specs.Rows.{component_beside}
 use Rattle.gradient.proofs.components.inner_gradients.Given as goal
 
 abbrev pub invariant-loop-k : goal.invariant-loop-k
-invariant-loop-k l = 
+invariant-loop-k l =
     Filling l.n l.k (λ k. component_beside gx_table l.above l.row l.below (l.from + k)) l.initial.gx l.gx
     × Filling l.n l.k (λ k. component_beside gy_table l.above l.row l.below (l.from + k)) l.initial.gy l.gy
 

@@ -6,7 +6,7 @@ use Rattle.rules.specs.Suppression.{suppressed_at}
 use Rattle.gradient.proofs.suppression.suppress_rows.Given as goal
 
 abbrev pub invariant-loop-y : goal.invariant-loop-y
-invariant-loop-y l = 
+invariant-loop-y l =
     (0 < l.y) × (l.y < l.size.height) × (l.start ≡ l.y * l.size.width)
     × Filling (area l.size) l.start (by_pixel l.size (suppressed_at l.size l.magnitude l.gx l.gy)) l.initial.out l.out
 
