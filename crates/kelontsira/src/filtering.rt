@@ -15,12 +15,7 @@ use pixel::byte::sobel_byte;
 use rules::codes::mode_of;
 use rules::{ACCEPTED, Coord, Kernel, REFUSED_SIDE, SeparableKernel, Size};
 
-pub fn kelontsira_resolve_coord(
-    coord: i64,
-    side: usize,
-    border: u8,
-    place: &mut usize,
-) -> u8
+pub fn kelontsira_resolve_coord(coord: i64, side: usize, border: u8, place: &mut usize) -> u8
     ensures { (result, place.new)
         ≡ bordered border place.old (λ b. placed side place.old (Calls.resolve_coord coord side b)) }
 {

@@ -32,7 +32,9 @@ pub extern "C" fn kelontsira_apply_kernel(
         ≡ bordered border out.old
         (λ b. Calls.apply_kernel (sides width height) (kernel_of columns rows) b pixels.now weights.now out.old) }
 {
-    kelontsira::filtering::kelontsira_apply_kernel(pixels, width, height, columns, rows, weights, border, out)
+    kelontsira::filtering::kelontsira_apply_kernel(
+        pixels, width, height, columns, rows, weights, border, out,
+    )
 }
 
 #[unsafe(no_mangle)]
@@ -53,7 +55,9 @@ pub extern "C" fn kelontsira_apply_separable_kernel(
         (λ b. Calls.apply_separable_kernel (sides width height) (taps_of across down) b pixels.now horizontal.now
         vertical.now work.old out.old) }
 {
-    kelontsira::filtering::kelontsira_apply_separable_kernel(pixels, width, height, across, down, horizontal, vertical, border, work, out)
+    kelontsira::filtering::kelontsira_apply_separable_kernel(
+        pixels, width, height, across, down, horizontal, vertical, border, work, out,
+    )
 }
 
 #[unsafe(no_mangle)]

@@ -28,5 +28,8 @@ pub extern "C" fn kelontsira_canny(
         (scratch work.old magnitude.old gx.old gy.old blurred.old marks.old stack.old)
         map.old) }
 {
-    kelontsira::run::kelontsira_canny(pixels, width, height, taps, low, high, work, magnitude, gx, gy, blurred, marks, stack, map, count)
+    kelontsira::run::kelontsira_canny(
+        pixels, width, height, taps, low, high, work, magnitude, gx, gy, blurred, marks, stack,
+        map, count,
+    )
 }

@@ -20,7 +20,9 @@ pub extern "C" fn kelontsira_start(
         ≡ start_says (wide.old, (tall.old, pending.old))
         (Calls.start (sides width height) (between low high) magnitudes.now marks.old stack.old) }
 {
-    kelontsira::walk::kelontsira_start(magnitudes, width, height, low, high, marks, stack, wide, tall, pending)
+    kelontsira::walk::kelontsira_start(
+        magnitudes, width, height, low, high, marks, stack, wide, tall, pending,
+    )
 }
 
 #[unsafe(no_mangle)]
