@@ -35,7 +35,7 @@ def declared():
             if re.match(r"\s*--|\s*(pub )?use ", line):
                 continue
             m = re.match(r"\s*" + MARKS + r"(?:record|data|ruleset)\s+(" + IDENT + ")", line)
-            m = m or re.match(r"\s{0,4}" + MARKS + "(" + IDENT + r")(?:\s*\{[^}]*\})?\s*:(?!=)", line)
+            m = m or re.match(r"\s*" + MARKS + "(" + IDENT + r")(?:\s*\{[^}]*\})?\s*:(?!=)", line)
             if m:
                 names.setdefault(m.group(1), path)
     return names

@@ -63,26 +63,26 @@ module _ (d : Size) (pixels : List ℕ) (taps : List Float) (t : Thresholds) whe
       accepted : n ≡ 0
       accepted = sym (run_kept.number (d, pixels, taps, t) (map, s)) ∙ e
 
-      is-accepted : after s map ≡ (record { refusal = 0; count = count_of d edges }, (filling map, cleared_scratch d s))
+      is_accepted : after s map ≡ (record { refusal = 0; count = count_of d edges }, (filling map, cleared_scratch d s))
       unfolding canny
-      is-accepted = rw accepted
+      is_accepted = rw accepted
 
       map_is : (after s map).1.0 ≡ filling map
-      map_is = ap (λ (a : Counted × (List ℕ × Scratch)). a.1.0) is-accepted
+      map_is = ap (λ (a : Counted × (List ℕ × Scratch)). a.1.0) is_accepted
 
       map_at : (q : ℕ) → q < area d → get_or (after s map).1.0 q 0 ≡ get_or edges q 0
       map_at q l = filled_at (area d) (λ q. get_or edges q 0) map (after s map).1.0 0 q map_is l
 
-      first-of-map : take (area d) (after s map).1.0 ≡ tabulate (area d) (λ q. get_or edges q 0)
-      first-of-map = take_filled (area d) (λ q. get_or edges q 0) map (after s map).1.0 map_is
+      first_of_map : take (area d) (after s map).1.0 ≡ tabulate (area d) (λ q. get_or edges q 0)
+      first_of_map = take_filled (area d) (λ q. get_or edges q 0) map (after s map).1.0 map_is
 
       walks : first (start_rows d t (suppressed_of d pixels taps) s.marks s.stack) ≡ 0
       walks = startable d pixels taps t s map accepted
 
-      count-is : (J : ℕ → Bool) → Tells d (hi d pixels taps t) (lo d pixels taps t) J → (after s map).0.count ≡ tally J (area d)
+      count_is : (J : ℕ → Bool) → Tells d (hi d pixels taps t) (lo d pixels taps t) J → (after s map).0.count ≡ tally J (area d)
       unfolding run_edges
-      count-is J tells =
-          ap (λ (a : Counted × (List ℕ × Scratch)). a.0.count) is-accepted
+      count_is J tells =
+          ap (λ (a : Counted × (List ℕ × Scratch)). a.0.count) is_accepted
           ∙ edges_count d t (suppressed_of d pixels taps) s.marks s.stack walks J tells
 
       on : (q : ℕ) → Joined d (hi d pixels taps t) (lo d pixels taps t) q → get_or (after s map).1.0 q 0 ≡ 255
@@ -97,10 +97,10 @@ module _ (d : Size) (pixels : List ℕ) (taps : List Float) (t : Thresholds) whe
   demand_1 =
       record {
         same_answer = λ s s' map map' r r'. answer s map r ∙ sym (answer s' map' r');
-        same_map = λ s s' map map' e e'. first-of-map s map e ∙ sym (first-of-map s' map' e');
+        same_map = λ s s' map map' e e'. first_of_map s map e ∙ sym (first_of_map s' map' e');
         kept_past = past;
-        wiped = λ s map e. ap (λ (a : Counted × (List ℕ × Scratch)). a.1.1) (is-accepted s map e);
-        counted = count-is;
+        wiped = λ s map e. ap (λ (a : Counted × (List ℕ × Scratch)). a.1.1) (is_accepted s map e);
+        counted = count_is;
         map_on = on;
         map_off = off;
       }

@@ -1,7 +1,7 @@
 -- A whole run: what it answers by its number, what acceptance grants the stages, and what they leave together. Assumes nothing.
-use mathlib.Core.Path.{◌≡◌, refl, sym, ap, ◌∙◌}
+use mathlib.Core.Path.{◌≡◌, sym, ap, ◌∙◌}
 use mathlib.Core.List.{List}
-use Prim.Native.Nat.{ℕ, ◌-◌, ◌≤◌, min}
+use Prim.Native.Nat.{ℕ, ◌≤◌, min}
 use native.Mathlib.Omega.{arith}
 use lib.Dec.{eqb}
 use lib.ListN.{length, get_or, take, drop}
@@ -93,13 +93,13 @@ module _ (d : Size) (pixels : List ℕ) (taps : List Float) (t : Thresholds) (s 
     -- ---- after the walk and the clearing
 
     module _ {marks' stack' out' : List ℕ} (w : Walked d t work' s.marks s.stack out marks' stack' out') where
-      out-is : out' ≡ filled (area d) (λ q. get_or (run_edges d pixels taps t) q 0) out
+      out_is : out' ≡ filled (area d) (λ q. get_or (run_edges d pixels taps t) q 0) out
       unfolding run_edges
-      out-is = w.is ∙ ap (λ (l : List Float). filled (area d) (λ q. get_or (edges_of d t l) q 0) out) read
+      out_is = w.is ∙ ap (λ (l : List Float). filled (area d) (λ q. get_or (edges_of d t l) q 0) out) read
 
       counted : tally (λ q. eqb (get_or out' q 0) 255) (area d) ≡ count_of d (run_edges d pixels taps t)
       unfolding count_of
-      counted = tally_eq _ _ (area d) (λ q l. ap (λ (v : ℕ). eqb v 255) (filled_at (area d) _ out out' 0 q out-is l))
+      counted = tally_eq _ _ (area d) (λ q l. ap (λ (v : ℕ). eqb v 255) (filled_at (area d) _ out out' 0 q out_is l))
 
       pub ran : {c : ℕ} {work'' magnitude'' : List Float} {gx'' gy'' : List ℤ} {blurred'' marks'' stack'' : List ℕ}
           → Roomy d (scratch work' magnitude' gx' gy' blurred' marks' stack') out'
@@ -114,7 +114,7 @@ module _ (d : Size) (pixels : List ℕ) (taps : List Float) (t : Thresholds) (s 
           let e : min (area d) (length out') ≡ area d = omega (arith, h.room) in
           rw (
             (rw e at k) ∙ counted,
-            out-is,
+            out_is,
             clear_past (area d) plus_zero s.work work' (drop_filled (area d) _ s.work work' u.is) h.work b.0,
             clear_past (area d) plus_zero s.magnitude magnitude' u.magnitude_kept h.magnitude a.0,
             clear_past (area d) (pos 0) s.gx gx' u.gx_kept h.gx a.1,

@@ -87,41 +87,41 @@ module _ {d : Size} {pixels : List ℕ} {taps work magnitude : List Float} {gx g
       gy_is : gy' ≡ painted d (gradient_at gy_table d Clamp (B d pixels taps)) gy
       gy_is = ap (λ (p : List ℤ × List ℤ). p.1) components
 
-      gx-lent : lent d gx' ≡ X d pixels taps
+      gx_lent : lent d gx' ≡ X d pixels taps
       unfolding component_of
-      gx-lent = lent_filled d _ gx gx' gx_is
+      gx_lent = lent_filled d _ gx gx' gx_is
 
-      gy-lent : lent d gy' ≡ Y d pixels taps
+      gy_lent : lent d gy' ≡ Y d pixels taps
       unfolding component_of
-      gy-lent = lent_filled d _ gy gy' gy_is
+      gy_lent = lent_filled d _ gy gy' gy_is
 
-      x-long : length (lent d gx') ≡ area d
+      x_long : length (lent d gx') ≡ area d
       unfolding component_of
-      x-long = long d _ (lent d gx') gx-lent
+      x_long = long d _ (lent d gx') gx_lent
 
-      y-long : length (lent d gy') ≡ area d
+      y_long : length (lent d gy') ≡ area d
       unfolding component_of
-      y-long = long d _ (lent d gy') gy-lent
+      y_long = long d _ (lent d gy') gy_lent
 
       -- ---- magnitude
 
       module _ {r₃ : ℕ} {magnitude' : List Float} (e₃ : (r₃, magnitude') ≡ gradient_magnitude d (lent d gx') (lent d gy') magnitude) where
-        magnitude-accepted : first (magnitude_rows d (lent d gx') (lent d gy') magnitude) ≡ 0
-        magnitude-accepted = let x = x-long in let y = y-long in sym (search rows depth 9)
+        magnitude_accepted : first (magnitude_rows d (lent d gx') (lent d gy') magnitude) ≡ 0
+        magnitude_accepted = let x = x_long in let y = y_long in sym (search rows depth 9)
 
-        magnitude-is : magnitude' ≡ filled (area d) (magnitude_at (X d pixels taps) (Y d pixels taps)) magnitude
+        magnitude_is : magnitude' ≡ filled (area d) (magnitude_at (X d pixels taps) (Y d pixels taps)) magnitude
         unfolding gradient_magnitude
-        magnitude-is =
-            left_is _ _ _ _ _ magnitude-accepted e₃
-            ∙ ap₂ (λ x y. filled (area d) (magnitude_at x y) magnitude) gx-lent gy-lent
+        magnitude_is =
+            left_is _ _ _ _ _ magnitude_accepted e₃
+            ∙ ap₂ (λ x y. filled (area d) (magnitude_at x y) magnitude) gx_lent gy_lent
 
-        magnitude-lent : lent d magnitude' ≡ M d pixels taps
+        magnitude_lent : lent d magnitude' ≡ M d pixels taps
         unfolding magnitudes_of
-        magnitude-lent = lent_filled d _ magnitude magnitude' magnitude-is
+        magnitude_lent = lent_filled d _ magnitude magnitude' magnitude_is
 
-        m-long : length (lent d magnitude') ≡ area d
+        m_long : length (lent d magnitude') ≡ area d
         unfolding magnitudes_of
-        m-long = long d _ (lent d magnitude') magnitude-lent
+        m_long = long d _ (lent d magnitude') magnitude_lent
 
         -- ---- suppression, over the work buffer that the blur cleared
 
@@ -129,22 +129,22 @@ module _ {d : Size} {pixels : List ℕ} {taps work magnitude : List Float} {gx g
           room : area d ≤ length work'
           room = omega (arith, ap length work_is ∙ length_filled (area d) (λ i. plus_zero) work h.work_room, h.work_room)
 
-          suppression-accepted : first (suppression_rows d (lent d magnitude') (lent d gx') (lent d gy') work') ≡ 0
-          suppression-accepted = let m = m-long in let x = x-long in let y = y-long in let l = room in sym (search rows depth 9)
+          suppression_accepted : first (suppression_rows d (lent d magnitude') (lent d gx') (lent d gy') work') ≡ 0
+          suppression_accepted = let m = m_long in let x = x_long in let y = y_long in let l = room in sym (search rows depth 9)
 
-          suppressed-is : work'' ≡ painted d (suppressed_at d (M d pixels taps) (X d pixels taps) (Y d pixels taps)) work'
+          suppressed_is : work'' ≡ painted d (suppressed_at d (M d pixels taps) (X d pixels taps) (Y d pixels taps)) work'
           unfolding non_maximum_suppression
-          suppressed-is =
-              left_is _ _ _ _ _ suppression-accepted e₄
-              ∙ ap (λ (m : List Float). painted d (suppressed_at d m (lent d gx') (lent d gy')) work') magnitude-lent
-              ∙ ap₂ (λ x y. painted d (suppressed_at d (M d pixels taps) x y) work') gx-lent gy-lent
+          suppressed_is =
+              left_is _ _ _ _ _ suppression_accepted e₄
+              ∙ ap (λ (m : List Float). painted d (suppressed_at d m (lent d gx') (lent d gy')) work') magnitude_lent
+              ∙ ap₂ (λ x y. painted d (suppressed_at d (M d pixels taps) x y) work') gx_lent gy_lent
 
-          pub all-stages : Suppressed d pixels taps work magnitude gx gy blurred work'' magnitude' gx' gy' blurred'
+          pub all_stages : Suppressed d pixels taps work magnitude gx gy blurred work'' magnitude' gx' gy' blurred'
           unfolding suppressed_under suppressed_at
-          all-stages =
+          all_stages =
               record {
-                is = refill (area d) _ _ _ work work' work'' work_is suppressed-is (λ i l. sym (get_d_tabulate (area d) _ nan i l));
-                magnitude_kept = drop_filled (area d) _ magnitude magnitude' magnitude-is;
+                is = refill (area d) _ _ _ work work' work'' work_is suppressed_is (λ i l. sym (get_d_tabulate (area d) _ nan i l));
+                magnitude_kept = drop_filled (area d) _ magnitude magnitude' magnitude_is;
                 gx_kept = drop_filled (area d) _ gx gx' gx_is;
                 gy_kept = drop_filled (area d) _ gy gy' gy_is;
                 blurred_kept = drop_filled (area d) _ blurred blurred' blurred_is;

@@ -1,5 +1,7 @@
 // The whole run: blur, gradient, magnitude, suppression, a walk to its end and the map, over lent scratch that is zero afterwards
 // (01.Walk.12, 01.Walk.13).
+#![tactic(auto)]
+
 mod stages;
 
 ghost use Rattle.std.specs.Prelude.{◌≡◌};

@@ -74,31 +74,31 @@ module _ (d : Size) (hi lo : ℕ → Bool) where
     Seen k t = Within d (col_at d q k) (row_at d q k) → T (lo (place d (col_at d q k) (row_at d q k))) → 2 ≤ mark t (place d (col_at d q k) (row_at d q k))
 
     module _ {s : State} (c : Core d hi lo (area d) s) where
-      kept-looks : (k : ℕ) → k ≤ 9 → Kept s (looks d q k s)
-      kept-looks = looks_keep d (Kept s) (Touch d q) (kept_neighbour s) q (λ k. touch_place d q k l) s (kept_none c)
+      kept_looks : (k : ℕ) → k ≤ 9 → Kept s (looks d q k s)
+      kept_looks = looks_keep d (Kept s) (Touch d q) (kept_neighbour s) q (λ k. touch_place d q k l) s (kept_none c)
 
-      looks-seen : (k : ℕ) → k ≤ 9 → (i : ℕ) → i < k → Seen i (looks d q k s)
+      looks_seen : (k : ℕ) → k ≤ 9 → (i : ℕ) → i < k → Seen i (looks d q k s)
       unfolding looks
-      looks-seen zero h i z = absurd (omega arith)
-      looks-seen (suc k) h i z =
+      looks_seen zero h i z = absurd (omega arith)
+      looks_seen (suc k) h i z =
           let t = looks d q k s in
-          let c' = (kept-looks k (omega arith)).core in
+          let c' = (kept_looks k (omega arith)).core in
           let g = visit_keeps d (Kept t) (Touch d q) (kept_neighbour t) (col_at d q k) (row_at d q k) (touch_place d q k l h) t (kept_none c') in
           ⊎_elim (λ e. rw e (λ w y. rw (visit_in t w) (look_seen c' (place_in_lem w) y)))
-          (λ e w y. let a = looks-seen k (omega arith) i e w y in omega (arith, g.up _ (place_in_lem w))) (below_suc z)
+          (λ e w y. let a = looks_seen k (omega arith) i e w y in omega (arith, g.up _ (place_in_lem w))) (below_suc z)
 
   -- ---- a take
 
   module _ {s : State} (h : Inv s) (p : 0 < s.pending) where
     kept : Kept (pop s) (taken d s)
     unfolding taken
-    kept = kept-looks (last_in h.core p) (last_joined h.core p) (core_pop h.core p) 9 (le_refl 9)
+    kept = kept_looks (last_in h.core p) (last_joined h.core p) (core_pop h.core p) 9 (le_refl 9)
 
     around : (r : ℕ) → Touch d (last s) r → T (lo r) → 2 ≤ mark (taken d s) r
     unfolding taken
     around r t =
         let m = nth d (last s) r t in
-        rw m.is at (looks-seen (last_in h.core p) (last_joined h.core p) (core_pop h.core p) 9 (le_refl 9) m.k m.nine m.in_picture)
+        rw m.is at (looks_seen (last_in h.core p) (last_joined h.core p) (core_pop h.core p) 9 (le_refl 9) m.k m.nine m.in_picture)
 
     pub take_keeps : Inv (taken d s)
     take_keeps = record {

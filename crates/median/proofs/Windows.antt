@@ -109,8 +109,8 @@ module _ {pixels : List ℕ} {d : Size} {mode : BorderMode} {rows : List ℕ} wh
             each = λ v. rw h (omega (arith, first v, take_at (column_at pixels d rows left) l (column_in byte p left) (length rows) v));
           }
 
-      pub less-counts : Counts m max_side
-      less-counts = counts_of r (omega arith) less
+      pub less_counts : Counts m max_side
+      less_counts = counts_of r (omega arith) less
 
       pub moved : {o : List ℕ} {n b : ℕ} → n ≡ below - belows (column_at pixels d rows left) (length rows) value
           → (o ≡ put_all m (column_at pixels d rows right) (length rows)) × (b ≡ n + belows (column_at pixels d rows right) (length rows) value)

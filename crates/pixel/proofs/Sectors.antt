@@ -58,16 +58,16 @@ module _ {gx gy : ℤ} {a b : ℕ} (z : Sizes gx gy a b) where
     along_x t = let l : (a + b) * (a + b) < 2 * (a * a) = omega (arith, sum_square a b) in rw (← z.x, ← z.y, some, lt-ltb _ _ l)
 
     module _ (u : a * a ≤ 2 * (a * b) + b * b) where
-      not-x : 2 * (a * a) ≤ (a + b) * (a + b)
-      not-x = omega (arith, sum_square a b)
+      not_x : 2 * (a * a) ≤ (a + b) * (a + b)
+      not_x = omega (arith, sum_square a b)
 
-      pub along-y : 2 * (a * b) + a * a < b * b → 90 ≡ sector_of gx gy
+      pub along_y : 2 * (a * b) + a * a < b * b → 90 ≡ sector_of gx gy
       unfolding sector_of
-      along-y t = let l : (a + b) * (a + b) < 2 * (b * b) = omega (arith, sum_square a b) in rw (← z.x, ← z.y, some, le-ltb _ _ not-x, lt-ltb _ _ l)
+      along_y t = let l : (a + b) * (a + b) < 2 * (b * b) = omega (arith, sum_square a b) in rw (← z.x, ← z.y, some, le-ltb _ _ not_x, lt-ltb _ _ l)
 
       pub diagonal : {s : Bool} → b * b ≤ 2 * (a * b) + a * a
           → beq (lt_z (to_z w16 (of_z w16 gx)) (pos 0)) (lt_z (to_z w16 (of_z w16 gy)) (pos 0)) ≡ s → cond s 45 135 ≡ sector_of gx gy
       unfolding sector_of
       diagonal v e =
           let l : 2 * (b * b) ≤ (a + b) * (a + b) = omega (arith, sum_square a b) in
-          rw (← z.x, ← z.y, some, le-ltb _ _ not-x, le-ltb _ _ l, ← z.signs, e)
+          rw (← z.x, ← z.y, some, le-ltb _ _ not_x, le-ltb _ _ l, ← z.signs, e)

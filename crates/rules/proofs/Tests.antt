@@ -51,10 +51,10 @@ module _ (p : ℕ → Bool) where
   -- and where the answer is yes there is one
   pub any_some : (n : ℕ) → any_below p n ≡ true → (i : ℕ) × (i < n) × (p i ≡ true)
   unfolding any_below
-  any_some zero e = absurd (subst-true e)
+  any_some zero e = absurd (subst_true e)
     where
-      subst-true : false ≡ true → ⊥
-      subst-true q = let z : ◌≡◌ {A = ℕ} 0 1 = cc in omega arith
+      subst_true : false ≡ true → ⊥
+      subst_true q = let z : ◌≡◌ {A = ℕ} 0 1 = cc in omega arith
   any_some (suc n) e = go (any_below p n) refl e (any_some n)
     where
       go : (b : Bool) → any_below p n ≡ b → (b || p n) ≡ true → (any_below p n ≡ true → (i : ℕ) × (i < n) × (p i ≡ true)) → (i : ℕ) × (i < suc n) × (p i ≡ true)

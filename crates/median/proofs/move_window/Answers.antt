@@ -1,6 +1,6 @@
 -- `move_window` meets its contract: one column out, one in, and how many stay below the value. Assumes nothing.
 use native.Mathlib.Omega.{arith}
-use Rattle.median.proofs.Windows.{counts_of, left_counted, less-counts, moved}
+use Rattle.median.proofs.Windows.{counts_of, left_counted, less_counts, moved}
 use Rattle.median.proofs.move_window.Goals as goal
 
 pub take_column-n-requires : goal.take_column-n-requires
@@ -11,7 +11,7 @@ take_column-n-requires c = (
 
 pub put_column-requires : goal.put_column-requires
 put_column-requires c = (
-  less-counts c.requires.0 (λ i. omega (arith, c.type_inv.pixels i)) c.requires.2 c.place_column-left.ensures c.place_column-right.ensures c.requires.3 c.take_column-n.ensures.0,
+  less_counts c.requires.0 (λ i. omega (arith, c.type_inv.pixels i)) c.requires.2 c.place_column-left.ensures c.place_column-right.ensures c.requires.3 c.take_column-n.ensures.0,
   c.requires.0.few,
   omega (arith, c.take_column-n.ensures.1, c.requires.4),
 )

@@ -12,8 +12,7 @@ unfolding stacked
 loop-i-init c = search rules
 
 pub stack_one-pending-requires : goal.stack_one-pending-requires
-stack_one-pending-requires c =
-    (search rules, omega (arith, few_stacked _ _ _ c.loop-i.invariant.2))
+stack_one-pending-requires c = (search rules, omega (arith, few_stacked _ _ _ c.loop-i.invariant.2))
 
 pub loop-i-preserved : goal.loop-i-preserved
 unfolding stacked

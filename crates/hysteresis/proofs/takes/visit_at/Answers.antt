@@ -18,6 +18,7 @@ returns-then-ny-lt1 c = sym (visit_out _ _ _ _ (λ w. omega arith))
 pub returns-then-size-ny : goal.returns-then-size-ny
 returns-then-size-ny c = sym (visit_out _ _ _ _ (λ w. omega arith))
 
+-- past the four tests the place is in the picture
 pub overflow_mul-ny : goal.overflow_mul-ny
 overflow_mul-ny c = omega (arith, place_in_lem (let told : Within c.args.size c.args.nx c.args.ny = omega arith in told))
 

@@ -1,5 +1,5 @@
 -- `sector` meets its contract, test by test. Assumes nothing.
-use Rattle.pixel.proofs.Sectors.{sizes_of, both_zero, along_x, along-y, diagonal}
+use Rattle.pixel.proofs.Sectors.{sizes_of, both_zero, along_x, along_y, diagonal}
 use Rattle.pixel.proofs.sector.sector.Goals as goal
 
 pub returns-then-a-b-eq0 : goal.returns-then-a-b-eq0
@@ -15,7 +15,7 @@ returns-then-twice-b c =
 pub returns-then-twice-a : goal.returns-then-twice-a
 returns-then-twice-a c =
     let z = sizes_of c.ranges.gx c.ranges.gy c.absolute-a.ensures c.absolute-b.ensures in
-    along-y z c.if-a-b-eq0.false c.if-twice-b.false c.if-twice-a.true
+    along_y z c.if-a-b-eq0.false c.if-twice-b.false c.if-twice-a.true
 
 pub returns-then-gx-gy : goal.returns-then-gx-gy
 returns-then-gx-gy c =
