@@ -1,4 +1,6 @@
 // A frame file's bytes in, the printout's bytes out (01.Frame.1 to 01.Frame.7).
+#![tactic(auto)]
+
 pub mod layout;
 mod running;
 mod text;

@@ -1,0 +1,20 @@
+-- `put_refused` meets its contract: a word and a field. Assumes nothing.
+use Rattle.std.proofs.Common.{◌≤◌, length, arith}
+use Rattle.rules.specs.Frame.{newline, refused_text}
+use Rattle.frame.proofs.Decimals.{four_digits}
+use Rattle.frame.proofs.Writing.{Put, field_more, refused_word, refused_fields, length_refused, from_first}
+use Rattle.frame.proofs.text.put_refused.Goals as goal
+
+-- the text has room for the word and the number
+pub put_field-requires : goal.put_field-requires
+put_field-requires c =
+    omega (arith, length_refused c.args.number, four_digits c.args.number (omega arith), c.requires, c.put_word-at.ensures.0, c.put_word-at.auto.text)
+
+pub returns : goal.returns
+returns c =
+    let v = c.put_word-at in
+    let p : Put c.args.text.now 0 refused_word v.result v.new.text = record { place = v.ensures.0; is = v.ensures.1 } in
+    let room : length (refused_text c.args.number) ≤ length c.args.text.now =
+    omega (arith, length_refused c.args.number, four_digits c.args.number (omega arith), c.requires) in
+    from_first (refused_text c.args.number) c.args.text.now room
+    (rw (refused_fields c.args.number) at (field_more c.args.number newline p c.put_field.ensures))
