@@ -4,6 +4,6 @@
 
 pub mod filtering;
 pub mod gradients;
-mod modes;
+mod numbers;
 pub mod run;
 pub mod walk;
