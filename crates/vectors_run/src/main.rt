@@ -3,9 +3,9 @@
 #![tactic(auto)]
 
 mod case;
-mod filters;
 mod gradients;
 mod lists;
+mod pictures;
 mod walks;
 
 use std::io;
