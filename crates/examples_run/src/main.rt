@@ -1,5 +1,5 @@
-// Runs the calls of the library, through its exports, on 01's examples and on every refusal: the cases stand in the file stdin, one to a
-// line, with what 01 wants of each. Each printed line has what was got and what is wanted.
+// Runs the calls of the library, through kelontsira, whose functions are the exports, on 01's examples and on every refusal: the cases stand
+// in the file stdin, one to a line, with what 01 wants of each. Each printed line has what was got and what is wanted.
 #![tactic(auto)]
 
 mod gradients;

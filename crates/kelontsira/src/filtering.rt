@@ -4,7 +4,7 @@ ghost use Rattle.rules.specs.Calls as Calls;
 ghost use Rattle.rules.specs.Root.{sobel_byte};
 ghost use Rattle.kelontsira.specs.Exports.{sides, kernel_of, taps_of, bordered, placed};
 
-use crate::border::{LAST_MODE, REFUSED_BORDER};
+use crate::numbers::{LAST_MODE, REFUSED_BORDER};
 use filters::box_blur::BoxBlurFilter;
 use filters::convolution::{apply_kernel, apply_separable_kernel, resolve_coord};
 use filters::gaussian::gaussian_blur;

@@ -5,7 +5,7 @@ ghost use Rattle.rules.specs.Root.{magnitude_of};
 ghost use Rattle.rules.specs.Sector.{sector_of};
 ghost use Rattle.kelontsira.specs.Exports.{sides, bordered};
 
-use crate::border::{LAST_MODE, REFUSED_BORDER};
+use crate::numbers::{LAST_MODE, REFUSED_BORDER};
 use gradient::components::sobel_gradients;
 use gradient::magnitude::gradient_magnitude;
 use gradient::suppression::non_maximum_suppression;

@@ -2,8 +2,8 @@
 // include/kelontsira.h declares them; a slice is a pointer and a length there. Nothing is worked out here: each equals the call it wraps.
 #![tactic(auto)]
 
-mod border;
 pub mod filtering;
 pub mod gradients;
+mod numbers;
 pub mod run;
 pub mod walk;

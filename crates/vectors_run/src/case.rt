@@ -1,5 +1,5 @@
 // One case: its six numbers and its four lists, and the line that says whether it agrees.
-use crate::{filters, gradients, walks};
+use crate::{gradients, pictures, walks};
 use std::io;
 
 // No list of the file is longer.
@@ -65,7 +65,7 @@ fn say(rt: &impl Print, case: Case) -> io::Result<()> {
 
 fn replay(case: Case, one: &[u32], two: &[u32], three: &[u32], wanted: &[u32]) -> bool {
     if case.stage <= 8 {
-        return filters::replay(case, one, two, three, wanted);
+        return pictures::replay(case, one, two, three, wanted);
     }
     if case.stage <= 12 {
         return gradients::replay(case, one, two, three, wanted);

@@ -1,11 +1,11 @@
-// Replays a sample of the vendor's answers, which `oracle/run vectors` wrote to the file stdin: each case goes through the exports of
+// Replays a sample of the vendor's answers, which `oracle/run vectors` wrote to the file stdin: each case goes through the functions of
 // `kelontsira`, and what they answer and leave is compared with what the vendor's Rust gave. One line a case: 1 where all agrees.
 #![tactic(auto)]
 
 mod case;
-mod filters;
 mod gradients;
 mod lists;
+mod pictures;
 mod walks;
 
 use std::io;
