@@ -2,7 +2,7 @@
 //     five pixels for six: sobel | border clamp | width 3 | height 2 | pixels 1*5 | out 201+6 | number 2 | out-after 201+6
 // A value is a number as everywhere (12, -12, x7fc00000, f12); 1*5 is five of it, and 201+6 six numbers, each one more. A field that is
 // not there has no values, and the number 0.
-ghost use Rattle.std.specs.Prelude.{◌≤◌, length};
+ghost use Rattle.std.specs.Prelude.{◌≡◌, ◌≤◌, length, get_or};
 
 use crate::{COLON, NEWLINE, SPACE, after_space, digits, pattern, place_of};
 
@@ -69,6 +69,24 @@ pub fn number(line: &[u8], name: &[u8]) -> u32 {
 
 pub fn size(line: &[u8], name: &[u8]) -> usize {
     number(line, name) as usize
+}
+
+// The k-th of a field's values, or 0.
+pub fn at(line: &[u8], name: &[u8], k: usize) -> u32
+    ensures { 1922 ≤ k → result ≡ 0 }
+{
+    let mut list = [0u32; ROOM];
+    let n = values(line, name, &mut list);
+    kth(&list[0..n], k)
+}
+
+fn kth(list: &[u32], k: usize) -> u32
+    ensures { result ≡ get_or list.now k 0 }
+{
+    if k < list.len() {
+        return list[k];
+    }
+    0
 }
 
 pub fn initial(line: &[u8], name: &[u8]) -> u8 {

@@ -4,12 +4,14 @@
 #![tactic(auto)]
 
 pub mod fields;
+pub mod lines;
+pub mod shape;
 
 ghost use Rattle.std.specs.Prelude.{◌≡◌, ◌&&◌, ◌≤◌, ◌%◌, min, eqb, ltb, length, get_or, IfOk};
 ghost use Rattle.std.specs.Float.{binary32};
 ghost use Rattle.std.specs.Float.Ieee.{of_bits};
 ghost use Rattle.rules.specs.Border.{mode_of};
-ghost use Rattle.cases.specs.Lines.{Case, Onward};
+ghost use Rattle.cases.specs.Lines.{Case, Onward, part_of, line_of};
 ghost use Rattle.cases.specs.Lists.{Turned, signed_of};
 
 use rules::BorderMode;
@@ -78,6 +80,42 @@ pub fn next_line(text: &[u8], from: usize) -> usize
         return end + 1;
     }
     end
+}
+
+// The case at `at`: writes its name and gives its line. `at` is then the next line, also where the write fails. A heading is its name alone;
+// a remark writes nothing, and its line is empty.
+pub fn next<'a>(rt: &impl Print, text: &'a [u8], at: &mut usize) -> io::Result<&'a [u8]>
+    ensures ok { IfOk result (λ line. line.now ≡ line_of text.now at.old at.new) }
+    ensures onward { Onward text.now at.old at.new }
+{
+    let from = *at;
+    let end = next_line(text, from);
+    *at = end;
+    if starts_remark(text, from) {
+        return Ok(&text[0..0]);
+    }
+    let line = part(text, from, end);
+    begin(rt, line)?;
+    Ok(line)
+}
+
+fn part(text: &[u8], from: usize, end: usize) -> &[u8]
+    ensures { result.now ≡ part_of text.now from end }
+{
+    if end <= text.len() {
+        if from <= end {
+            return &text[from..end];
+        }
+    }
+    &text[0..0]
+}
+
+fn begin(rt: &impl Print, line: &[u8]) -> io::Result<()> {
+    after_name(rt, line, 0)?;
+    if fields::calls(line, b"heading") {
+        report::words(rt, b"\n")?;
+    }
+    Ok(())
 }
 
 // Writes a name; the place of the space after its colon.
