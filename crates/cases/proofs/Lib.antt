@@ -1,2 +1,3 @@
--- A signed number that was made of a pattern.
-pub mod ReadBack
+-- How far below -1 a signed number reaches, and lists turned into numbers of other types.
+pub mod Below
+pub mod Turning

@@ -18,6 +18,7 @@ use rules::BorderMode;
 use rules::codes::{float, mode_of};
 use scratch::least;
 use std::io;
+use std::io::Read;
 
 // How many numbers a case has; those that its line leaves out are 0.
 const ROW: usize = 80;
@@ -29,6 +30,21 @@ pub(crate) const NEWLINE: u8 = 10;
 pub(crate) const SPACE: u8 = 32;
 
 pub(crate) const COLON: u8 = 58;
+
+// Reads until the buffer is full or the input ends; how many bytes. What comes after a full buffer is not read.
+pub fn read_full(from: &mut impl Read, buffer: &mut [u8]) -> io::Result<usize>
+    ensures { IfOk result (λ n. n ≤ length buffer.new) }
+{
+    let mut done = 0;
+    while done < buffer.len() {
+        let n = from.read(&mut buffer[done..])?;
+        if n == 0 {
+            return Ok(done);
+        }
+        done += n;
+    }
+    Ok(done)
+}
 
 // The line at `at`: writes its name and gives its numbers. `at` is then the next line, also where the write fails. A remark writes nothing,
 // and gives zeros.

@@ -10,12 +10,14 @@ mod shape;
 
 use cases::fields::calls;
 use std::io;
-use std::io::Read;
+
+// More bytes than the file has.
+const TEXT: usize = 131072;
 
 fn main(rt: HostRuntime) -> io::Result<()> {
-    let mut text = Vec::new(rt.alloc());
-    rt.stdin().read_to_end(&mut text)?;
-    lines_of(&rt, &text)
+    let mut text = [0u8; TEXT];
+    let n = cases::read_full(&mut rt.stdin(), &mut text)?;
+    lines_of(&rt, &text[..n])
 }
 
 fn lines_of(rt: &impl Print, text: &[u8]) -> io::Result<()> {

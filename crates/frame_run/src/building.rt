@@ -1,5 +1,5 @@
 // A frame file made of a case's words, and what the library prints of its first bytes.
-ghost use Rattle.std.specs.Prelude.{◌≤◌, length};
+ghost use Rattle.std.specs.Prelude.{◌≡◌, ◌≤◌, length, take};
 
 use cases::count;
 use frame::{FILE_ROOM, TEXT_ROOM};
@@ -32,7 +32,7 @@ fn put_word(file: &mut [u8; FILE_ROOM], at: usize, v: u32) {
 
 // What the library prints of a file's first n bytes: of a longer file those that have room, which decide it.
 pub(crate) fn printed(file: &[u8; FILE_ROOM], n: usize, text: &mut [u8; TEXT_ROOM]) -> usize
-    ensures { result ≤ length text.new }
+    ensures { (result ≤ length text.new) × (result ≡ length (take result text.new)) }
 {
     frame::print(file, n, text)
 }

@@ -1,5 +1,5 @@
 // The frames of the folder frames/, each beside the print that stands there.
-ghost use Rattle.std.specs.Prelude.{◌≤◌, length};
+ghost use Rattle.std.specs.Prelude.{◌≡◌, ◌≤◌, length, take};
 
 use crate::building::prints;
 use frame::{FILE_ROOM, TEXT_ROOM};
@@ -43,7 +43,7 @@ pub(crate) fn run(rt: &(impl Files + Print)) -> io::Result<()> {
 
 // The file's bytes: 0 where it cannot be read.
 fn load(rt: &impl Files, name: &str, buffer: &mut [u8]) -> usize
-    ensures { result ≤ length buffer.new }
+    ensures { (result ≤ length buffer.new) × (result ≡ length (take result buffer.new)) }
 {
     match fs::open(rt, name) {
         Ok(mut file) => read_full(&mut file, buffer),

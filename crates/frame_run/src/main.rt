@@ -7,12 +7,14 @@ mod files;
 mod texts;
 
 use std::io;
-use std::io::Read;
+
+// More bytes than the file has.
+const TEXT: usize = 65536;
 
 fn main(rt: HostRuntime) -> io::Result<()> {
-    let mut text = Vec::new(rt.alloc());
-    rt.stdin().read_to_end(&mut text)?;
-    lines_of(&rt, &text)?;
+    let mut text = [0u8; TEXT];
+    let n = cases::read_full(&mut rt.stdin(), &mut text)?;
+    lines_of(&rt, &text[..n])?;
     files::run(&rt)
 }
 

@@ -1,5 +1,6 @@
--- The laws behind this crate's proofs: components, a byte halved or tested, a guessed root tested or mended, the sector.
+-- The laws behind this crate's proofs: components and their squares, a byte halved or tested, a guessed root tested or mended, the sector.
 pub mod Weighing
+pub mod Squares
 pub mod Halving
 pub mod Ends
 pub mod Bits

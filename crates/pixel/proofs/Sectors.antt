@@ -1,5 +1,5 @@
 -- Sectors: the sector by the code's tests. Assumes nothing.
-use Rattle.std.proofs.Common.{◌≡◌, ℕ, ◌+◌, ◌*◌, ◌<◌, ◌≤◌, Bool, true, false, cond, not, ◌&&◌, eqb, ℤ, pos, negsuc, nat_abs, refl, zero-le, mul_comm, add-mul, mul-add, arith, w16, SFits, to_z, of_z, le-ltb, lt-ltb, eqb-true}
+use Rattle.std.proofs.Common.{◌≡◌, ℕ, ◌+◌, ◌*◌, ◌^◌, ◌<◌, ◌≤◌, Bool, true, false, cond, not, ◌&&◌, eqb, ℤ, pos, negsuc, nat_abs, refl, zero-le, mul_comm, add-mul, mul-le-mul, mul-add, arith, w16, SFits, to_z, of_z, le-ltb, lt-ltb, eqb-true}
 use mathlib.Core.Bool.{beq}
 use lib.Signed.{lt_z, non_neg}
 use mir.ValLaws.{to_z-of_z}
@@ -30,6 +30,9 @@ is_false false n = refl
 pub record Sizes (gx gy : ℤ) (a b : ℕ) : Type 0 where
   pub x : a ≡ nat_abs gx
   pub y : b ≡ nat_abs gy
+  pub square_x : a * a ≤ 2 ^ 30
+  pub square_y : b * b ≤ 2 ^ 30
+  pub product : a * b ≤ 2 ^ 30
   pub signs : beq (lt_z (to_z w16 (of_z w16 gx)) (pos 0)) (lt_z (to_z w16 (of_z w16 gy)) (pos 0)) ≡ beq (non_neg gx) (non_neg gy)
 
 pub sizes_of : {gx gy : ℤ} {a b : ℕ} → SFits w16 gx → SFits w16 gy → AbsoluteOf (to_z w16 (of_z w16 gx)) a → AbsoluteOf (to_z w16 (of_z w16 gy)) b → Sizes gx gy a b
@@ -39,6 +42,9 @@ sizes_of {gx} {gy} f g p q =
     record {
       x = rw x at p.is;
       y = rw y at q.is;
+      square_x = mul-le-mul p.most p.most;
+      square_y = mul-le-mul q.most q.most;
+      product = mul-le-mul p.most q.most;
       signs = rw (x, y, below_zero gx, below_zero gy) (same_not (non_neg gx) (non_neg gy));
     }
 

@@ -1,10 +1,10 @@
 -- A component of nine bytes, as the code sums it at 16 bits. Assumes nothing.
-use Rattle.std.proofs.Common.{◌≡◌, ℕ, zero, suc, ◌+◌, ◌*◌, ◌^◌, ◌<◌, ◌≤◌, Bool, true, ◌&&◌, T, leb, List, [], ◌∷◌, length, get_or, ℤ, pos, ◌+ℤ◌, ◌*ℤ◌, nat_abs, mul-le-mul, add-one, arith, leb→le, w16, to_z, of_z}
+use Rattle.std.proofs.Common.{◌≡◌, ℕ, zero, suc, ◌+◌, ◌*◌, ◌^◌, ◌<◌, ◌≤◌, Bool, true, ◌&&◌, T, leb, List, [], ◌∷◌, length, get_or, ℤ, pos, ◌+ℤ◌, ◌*ℤ◌, nat_abs, mul-le-mul, add-one, arith, leb→le, w16, SFits, to_z, of_z}
 use lib.Ieee.Fits.{and_l, and_r}
 use lib.Signed.{mag}
 use mir.ValLaws.{to_z-of_z, to_z_pos}
 use Rattle.rules.specs.Gradient.{sum_z}
-use Rattle.rules.proofs.Sizes.{back, abs_mul, sum_size}
+use Rattle.rules.proofs.Sizes.{sfits, back, abs_mul, sum_size}
 use Rattle.pixel.specs.Components.{Weights}
 
 -- what is stored as an i16 is read back
@@ -33,14 +33,31 @@ module _ {table : List ℤ} {nine : List ℕ} (k : Lent table nine) where
   abbrev product : ℕ → ℤ
   product j = to_z w16 (of_z w16 (get_or table j (pos 0))) *ℤ to_z w16 (get_or nine j 0)
 
+  pub byte_fits : (j : ℕ) → SFits w16 (pos (get_or nine j 0))
+  byte_fits j = sfits w16 (pos (get_or nine j 0)) (omega (arith, k.byte j))
+
   product_is : (j : ℕ) → product j ≡ term table nine j
   product_is j =
       let l : get_or nine j 0 < 2 ^ 15 = omega (arith, k.byte j) in
       rw (back w16 (get_or table j (pos 0)) (omega (arith, k.small.small j)), to_z_pos w16 (get_or nine j 0) l)
 
-  pub sum_is : {j : ℕ} {x : ℤ} → j < 9 → x ≡ sum_z (term table nine) j → x +ℤ to_z w16 (of_z w16 (product j)) ≡ sum_z (term table nine) (j + 1)
+  pub product_fits : (j : ℕ) → SFits w16 (product j)
+  product_fits j = rw (product_is j) (sfits w16 (term table nine j) (omega (arith, term_size j)))
+
+  module _ {j bits : ℕ} (l : j < 9) (e : bits ≡ of_z w16 (sum_z (term table nine) j)) where
+    pub sum_is : to_z w16 bits +ℤ to_z w16 (of_z w16 (product j)) ≡ sum_z (term table nine) (j + 1)
+    unfolding sum_z
+    sum_is =
+        let f = back w16 (sum_z (term table nine) j) (omega (arith, sum_within j)) in
+        rw (e, f, product_is j, back w16 (term table nine j) (omega (arith, term_size j)), add-one)
+
+    pub sum_fits : SFits w16 (to_z w16 bits +ℤ to_z w16 (of_z w16 (product j)))
+    sum_fits = rw sum_is (sfits w16 (sum_z (term table nine) (j + 1)) (omega (arith, sum_within (j + 1))))
+
+  -- the next sum, of a sum that is a number already
+  pub sum_next : {j : ℕ} {x : ℤ} → j < 9 → x ≡ sum_z (term table nine) j → x +ℤ to_z w16 (of_z w16 (product j)) ≡ sum_z (term table nine) (j + 1)
   unfolding sum_z
-  sum_is {j} l e = rw (e, product_is j, back w16 (term table nine j) (omega (arith, term_size j)), add-one)
+  sum_next {j} l e = rw (e, product_is j, back w16 (term table nine j) (omega (arith, term_size j)), add-one)
 
 -- ---- a table that the checker can compute has small weights: one test
 

@@ -9,12 +9,14 @@ mod pictures;
 mod walks;
 
 use std::io;
-use std::io::Read;
+
+// More bytes than the file has.
+const ROOM: usize = 262144;
 
 fn main(rt: HostRuntime) -> io::Result<()> {
-    let mut text = Vec::new(rt.alloc());
-    rt.stdin().read_to_end(&mut text)?;
-    lines_of(&rt, &text)
+    let mut text = [0u8; ROOM];
+    let n = cases::read_full(&mut rt.stdin(), &mut text)?;
+    lines_of(&rt, &text[..n])
 }
 
 fn lines_of(rt: &impl Print, text: &[u8]) -> io::Result<()> {

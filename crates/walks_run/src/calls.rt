@@ -1,4 +1,4 @@
-// The walk's calls through the exports, where a state is three lent numbers. A refused start leaves these, and a request for the map takes
+// The walk's calls through kelontsira, where a state is three lent numbers. A refused start leaves these, and a request for the map takes
 // none: there the state is what the crate's own call answers.
 use cases::fields::ROOM;
 use cases::{fields, shape};

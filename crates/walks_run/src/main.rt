@@ -1,4 +1,4 @@
-// Runs the walk and the whole run, through the exports, on 01's examples, on slices of every size, on forged states and on every refusal:
+// Runs the walk and the whole run, through kelontsira, on 01's examples, on slices of every size, on forged states and on every refusal:
 // the cases stand in the file stdin, one to a line, with what 01 wants of each. Each printed line has what was got and what is wanted.
 #![tactic(auto)]
 
@@ -10,12 +10,14 @@ mod states;
 mod walks;
 
 use std::io;
-use std::io::Read;
+
+// More bytes than the file has.
+const TEXT: usize = 65536;
 
 fn main(rt: HostRuntime) -> io::Result<()> {
-    let mut text = Vec::new(rt.alloc());
-    rt.stdin().read_to_end(&mut text)?;
-    lines_of(&rt, &text)
+    let mut text = [0u8; TEXT];
+    let n = cases::read_full(&mut rt.stdin(), &mut text)?;
+    lines_of(&rt, &text[..n])
 }
 
 fn lines_of(rt: &impl Print, text: &[u8]) -> io::Result<()> {

@@ -1,6 +1,6 @@
 -- `numbers` meets its contract: a filling loop. Assumes nothing.
 use Rattle.std.proofs.Common.{arith, get_or}
-use Rattle.cases.proofs.ReadBack.{read_back}
+use Rattle.cases.proofs.Below.{read_back}
 use Rattle.rules.proofs.Fill.{filling_start, filling_more}
 use Rattle.cases.proofs.numbers.Goals as goal
 

@@ -3,4 +3,4 @@ use Rattle.frame.proofs.Suffices.{counts}
 use Rattle.frame_run.proofs.building.printed.Goals as goal
 
 pub returns : goal.returns
-returns c = (counts _ _ _ c.print.ensures.2).0
+returns c = counts _ _ _ c.print.ensures.2
