@@ -3,7 +3,7 @@
 
 usage: tools/respell.py [--dry]     at the top of the repository, once, after the language's own scripts have run
 
-The names are those that specs/ and proofs/*.antt declare. A lemma that would fall together with a definition gets `_lem`. Rust's names,
+The names are those that specs/ and proofs/ declare. A lemma that would fall together with a definition gets `_lem`. Rust's names,
 strings, inputs and outputs keep theirs; comments and the pages' code marks follow.
 """
 import collections
@@ -30,13 +30,14 @@ def files(*patterns):
 def declared():
     """Each name of ours, in the order of its first file."""
     names = {}
-    for path in files("crates/*/specs/**/*.antt", "crates/*/proofs/*.antt"):
+    for path in files("crates/*/specs/**/*.antt", "crates/*/proofs/**/*.antt"):
         for line in open(path, encoding="utf-8"):
             if re.match(r"\s*--|\s*(pub )?use ", line):
                 continue
             m = re.match(r"\s*" + MARKS + r"(?:record|data|ruleset)\s+(" + IDENT + ")", line)
             m = m or re.match(r"\s*" + MARKS + "(" + IDENT + r")(?:\s*\{[^}]*\})?\s*:(?!=)", line)
-            if m:
+            # What answers a goal has the goal's name, which is the check's.
+            if m and not re.match(r"\s*(goal|tie)\.|\s*\{M : Type 1\}", line[m.end():]):
                 names.setdefault(m.group(1), path)
     return names
 

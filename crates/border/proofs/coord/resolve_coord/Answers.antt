@@ -27,13 +27,17 @@ pub returns-then-of_coord-ne-ACCEPTED : goal.returns-then-of_coord-ne-ACCEPTED
 unfolding resolve_coord
 returns-then-of_coord-ne-ACCEPTED c = rw (applied (one_side_row c.args.side).applies c.of_coord.ensures c.if-of_coord-ne-ACCEPTED.true)
 
+-- past it the side is fine
 pub resolve-requires : goal.resolve-requires
 resolve-requires c =
-    let p = neither (eqb c.args.side 0) (ltb max_side c.args.side) (let told : (one_side_row c.args.side).applies ≡ false = passed _ c.of_coord.ensures c.if-of_coord-ne-ACCEPTED.false in told) in
-    let z = eqb-false c.args.side 0 p.0 in
-    (omega arith, ltb-false max_side c.args.side p.1)
+    let side = c.args.side in
+    let fine : (one_side_row side).applies ≡ false = passed _ c.of_coord.ensures c.if-of_coord-ne-ACCEPTED.false in
+    let p = neither (eqb side 0) (ltb max_side side) fine in
+    let z = eqb-false side 0 p.0 in
+    (omega arith, ltb-false max_side side p.1)
 
 pub returns : goal.returns
 unfolding resolve_coord
 returns c =
-    rw (let told : (one_side_row c.args.side).applies ≡ false = passed _ c.of_coord.ensures c.if-of_coord-ne-ACCEPTED.false in told) (ap coord_says (rw (to_z-of_z w64 _ c.ranges.coord) at c.resolve.ensures))
+    let fine : (one_side_row c.args.side).applies ≡ false = passed _ c.of_coord.ensures c.if-of_coord-ne-ACCEPTED.false in
+    rw fine (ap coord_says (rw (to_z-of_z w64 _ c.ranges.coord) at c.resolve.ensures))

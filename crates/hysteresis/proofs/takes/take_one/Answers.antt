@@ -19,48 +19,48 @@ module _ {d : Size} {marks stack : List ℕ} {p : ℕ} (r : (0 < p) × Fit d (st
   abbrev q : ℕ
   q = get_or stack (p - 1) 0
 
-  q-in : q < area d
-  q-in = last_in r.1 r.0
+  q_in : q < area d
+  q_in = last_in r.1 r.0
 
-  x-small : q % d.width < max_area
-  x-small = omega (arith, q-in, r.1.small, mod-le q d.width)
+  x_small : q % d.width < max_area
+  x_small = omega (arith, q_in, r.1.small, mod-le q d.width)
 
-  y-small : q / d.width < max_area
-  y-small = omega (arith, q-in, r.1.small, div-le_self q d.width)
+  y_small : q / d.width < max_area
+  y_small = omega (arith, q_in, r.1.small, div-le_self q d.width)
 
-  fit-0 : Fit d (pop (state marks stack p))
-  fit-0 = fit_pop r.1 r.0
+  fit_0 : Fit d (pop (state marks stack p))
+  fit_0 = fit_pop r.1 r.0
 
 pub bounds-marks-q : goal.bounds-marks-q
-bounds-marks-q c = omega (arith, q-in c.requires, c.requires.1.marks_long)
+bounds-marks-q c = omega (arith, q_in c.requires, c.requires.1.marks_long)
 
 pub nonzero_rem-x : goal.nonzero_rem-x
-nonzero_rem-x c = wide _ _ _ (q-in c.requires)
+nonzero_rem-x c = wide _ _ _ (q_in c.requires)
 
 pub nonzero_div-y : goal.nonzero_div-y
-nonzero_div-y c = wide _ _ _ (q-in c.requires)
+nonzero_div-y c = wide _ _ _ (q_in c.requires)
 
 pub visit_row-above-requires : goal.visit_row-above-requires
 unfolding pop
-visit_row-above-requires c = (x-small c.requires, fit-0 c.requires)
+visit_row-above-requires c = (x_small c.requires, fit_0 c.requires)
 
 pub overflow_add-y : goal.overflow_add-y
-overflow_add-y c = omega (arith, y-small c.requires)
+overflow_add-y c = omega (arith, y_small c.requires)
 
 -- after each row the walk fits
 pub visit_row-beside-requires : goal.visit_row-beside-requires
 unfolding pop
-visit_row-beside-requires c = (x-small c.requires, rw c.visit_row-above.ensures (fit_row _ _ (fit-0 c.requires)))
+visit_row-beside-requires c = (x_small c.requires, rw c.visit_row-above.ensures (fit_row _ _ (fit_0 c.requires)))
 
 pub overflow_add-y-2 : goal.overflow_add-y-2
-overflow_add-y-2 c = omega (arith, y-small c.requires)
+overflow_add-y-2 c = omega (arith, y_small c.requires)
 
 pub visit_row-requires : goal.visit_row-requires
 unfolding pop
 visit_row-requires c =
     let v = c.visit_row-above in
-    let f : Fit c.args.size (state v.new.marks v.new.stack v.result) = rw v.ensures (fit_row _ _ (fit-0 c.requires)) in
-    (x-small c.requires, rw c.visit_row-beside.ensures (fit_row _ _ f))
+    let f : Fit c.args.size (state v.new.marks v.new.stack v.result) = rw v.ensures (fit_row _ _ (fit_0 c.requires)) in
+    (x_small c.requires, rw c.visit_row-beside.ensures (fit_row _ _ f))
 
 pub returns : goal.returns
 unfolding taken pop

@@ -20,15 +20,16 @@ returns-then-size-ny c = sym (visit_out _ _ _ _ (λ w. omega arith))
 
 -- past the four tests the place is in the picture
 pub overflow_mul-ny : goal.overflow_mul-ny
-overflow_mul-ny c = omega (arith, place_in_lem (let told : Within c.args.size c.args.nx c.args.ny = omega arith in told))
+overflow_mul-ny c = let w : Within c.args.size c.args.nx c.args.ny = omega arith in omega (arith, place_in_lem w)
 
 pub overflow_add-ny : goal.overflow_add-ny
-overflow_add-ny c = omega (arith, place_in_lem (let told : Within c.args.size c.args.nx c.args.ny = omega arith in told))
+overflow_add-ny c = let w : Within c.args.size c.args.nx c.args.ny = omega arith in omega (arith, place_in_lem w)
 
 pub look_at-requires : goal.look_at-requires
 look_at-requires c =
-    let l = place_in_lem (let told : Within c.args.size c.args.nx c.args.ny = omega arith in told) in
+    let w : Within c.args.size c.args.nx c.args.ny = omega arith in
+    let l = place_in_lem w in
     (omega (arith, c.requires.marks_long), omega (arith, c.requires.small), λ e. omega (arith, room_for _ c.requires _ l e, c.requires.stack_long))
 
 pub returns : goal.returns
-returns c = c.look_at.ensures ∙ sym (visit_in _ (let told : Within c.args.size c.args.nx c.args.ny = omega arith in told))
+returns c = let w : Within c.args.size c.args.nx c.args.ny = omega arith in c.look_at.ensures ∙ sym (visit_in _ w)

@@ -22,28 +22,35 @@ lacks n s out =
     || (ltb (length s.gy) n
     || (ltb (length s.blurred) n || (ltb (length s.marks) n || (ltb (length s.stack) n || ltb (length out) n))))))
 
-scratch-number : (d : Size) (s : Scratch) (out : List ℕ) → first (scratch_rows d s out) ≡ cond (lacks (area d) s out) 7 0
-scratch-number d s out = simp joined
+scratch_number : (d : Size) (s : Scratch) (out : List ℕ) → first (scratch_rows d s out) ≡ cond (lacks (area d) s out) 7 0
+scratch_number d s out = simp joined
 
 -- past rows 1 to 6 the room decides
-by-room : (d : Size) (pixels : List ℕ) (taps : List Float) (t : Thresholds) (s : Scratch) (out : List ℕ) {r : ℕ} {b : Bool}
+by_room : (d : Size) (pixels : List ℕ) (taps : List Float) (t : Thresholds) (s : Scratch) (out : List ℕ) {r : ℕ} {b : Bool}
     → r ≡ first (run_front d pixels taps t []) → r ≡ 0 → b ≡ lacks (length pixels) s out → cond b 7 0 ≡ first (run_rows d pixels taps t s out)
-by-room d pixels taps t s out {b = b} e z f =
+by_room d pixels taps t s out {b = b} e z f =
     let o = off (run_front d pixels taps t []) tt (sym e ∙ z) in
     let n = input_off d pixels o.1.0 in
     let g : b ≡ lacks (area d) s out = rw n at f in
-    rw g (sym (front_passes (run_front d pixels taps t []) (scratch_rows d s out) o ∙ scratch-number d s out))
+    rw g (sym (front_passes (run_front d pixels taps t []) (scratch_rows d s out) o ∙ scratch_number d s out))
 
 pub returns-then-refusal-ne-ACCEPTED : goal.returns-then-refusal-ne-ACCEPTED
 returns-then-refusal-ne-ACCEPTED c =
     let a = c.args in
-    front_refuses (run_front a.size a.pixels.now a.taps.now a.thresholds []) (scratch_rows a.size (let told : Scratch = scratch c.args.work.now c.args.magnitude.now c.args.gx.now c.args.gy.now c.args.blurred.now c.args.marks.now c.args.stack.now in told) a.map.now)
+    let s = scratch a.work.now a.magnitude.now a.gx.now a.gy.now a.blurred.now a.marks.now a.stack.now in
+    front_refuses (run_front a.size a.pixels.now a.taps.now a.thresholds []) (scratch_rows a.size s a.map.now)
     c.before_room-refusal.ensures c.if-refusal-ne-ACCEPTED.true
 
 pub returns-then-lacks_room : goal.returns-then-lacks_room
 returns-then-lacks_room c =
-    rw c.if-lacks_room.true at (let told : let a = c.args in cond c.lacks_room.result 7 0 ≡ first (run_rows a.size a.pixels.now a.taps.now a.thresholds (let told : Scratch = scratch c.args.work.now c.args.magnitude.now c.args.gx.now c.args.gy.now c.args.blurred.now c.args.marks.now c.args.stack.now in told) a.map.now) = let a = c.args in by-room a.size a.pixels.now a.taps.now a.thresholds (let told : Scratch = scratch c.args.work.now c.args.magnitude.now c.args.gx.now c.args.gy.now c.args.blurred.now c.args.marks.now c.args.stack.now in told) a.map.now c.before_room-refusal.ensures c.if-refusal-ne-ACCEPTED.false c.lacks_room.ensures in told)
+    let a = c.args in
+    let s = scratch a.work.now a.magnitude.now a.gx.now a.gy.now a.blurred.now a.marks.now a.stack.now in
+    let r = by_room a.size a.pixels.now a.taps.now a.thresholds s a.map.now c.before_room-refusal.ensures c.if-refusal-ne-ACCEPTED.false c.lacks_room.ensures in
+    rw c.if-lacks_room.true at r
 
 pub returns : goal.returns
 returns c =
-    rw c.if-lacks_room.false at (let told : let a = c.args in cond c.lacks_room.result 7 0 ≡ first (run_rows a.size a.pixels.now a.taps.now a.thresholds (let told : Scratch = scratch c.args.work.now c.args.magnitude.now c.args.gx.now c.args.gy.now c.args.blurred.now c.args.marks.now c.args.stack.now in told) a.map.now) = let a = c.args in by-room a.size a.pixels.now a.taps.now a.thresholds (let told : Scratch = scratch c.args.work.now c.args.magnitude.now c.args.gx.now c.args.gy.now c.args.blurred.now c.args.marks.now c.args.stack.now in told) a.map.now c.before_room-refusal.ensures c.if-refusal-ne-ACCEPTED.false c.lacks_room.ensures in told)
+    let a = c.args in
+    let s = scratch a.work.now a.magnitude.now a.gx.now a.gy.now a.blurred.now a.marks.now a.stack.now in
+    let r = by_room a.size a.pixels.now a.taps.now a.thresholds s a.map.now c.before_room-refusal.ensures c.if-refusal-ne-ACCEPTED.false c.lacks_room.ensures in
+    rw c.if-lacks_room.false at r

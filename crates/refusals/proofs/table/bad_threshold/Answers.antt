@@ -5,16 +5,16 @@ use lib.Ieee.{Float, nan, inf, fin, binary32, lt, of_bits, of_fields, of_int, ro
 use Rattle.rules.specs.Refusals.{bad_threshold}
 use Rattle.refusals.proofs.table.bad_threshold.Goals as goal
 
-threshold-test : (t : Float) → (not (lt t (of_bits binary32 0x7f80_0000)) || (lt t (of_bits binary32 0) || lt (of_bits binary32 0x437f_0000) t)) ≡ bad_threshold t
+threshold_test : (t : Float) → (not (lt t (of_bits binary32 0x7f80_0000)) || (lt t (of_bits binary32 0) || lt (of_bits binary32 0x437f_0000) t)) ≡ bad_threshold t
 unfolding lt of_bits of_fields of_int round odd units span climb size
-threshold-test nan = refl
-threshold-test (inf true) = refl
-threshold-test (inf false) = refl
-threshold-test (fin s m e) = refl
+threshold_test nan = refl
+threshold_test (inf true) = refl
+threshold_test (inf false) = refl
+threshold_test (fin s m e) = refl
 
 pub float_from_bits-infinity : goal.float_from_bits-infinity
 unfolding nan_bits
 float_from_bits-infinity c = tt
 
 pub returns : goal.returns
-returns c = threshold-test _
+returns c = threshold_test _
