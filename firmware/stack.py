@@ -25,7 +25,7 @@ class Unknown(Exception):
 
 class Instruction:
     def __init__(self, address, text):
-        text = re.sub(r"\s*#.*$", "", text)
+        text = re.sub(r"\s+#.*$", "", text)
         words = text.split(None, 1)
         while words[0] in ("rep", "repz", "repnz", "lock", "notrack", "bnd", "data16", "cs", "ds"):
             words = words[1].split(None, 1) if len(words) > 1 else ["nop"]

@@ -1,4 +1,3 @@
 -- Laws about the code of this crate and of the filters' loops that several proofs cite.
-pub mod Resolving
 pub mod Reading
 pub mod Writing

@@ -6,9 +6,10 @@ ghost use Rattle.rules.specs.Calls.{resolve_coord};
 ghost use Rattle.border.specs.Reading.{placed};
 
 use refusals::filter::of_coord;
-use rules::{ACCEPTED, BorderMode, Coord};
+use rules::{BorderMode, Coord};
 
-// The non-negative remainder of c by p: the machine's, mended where it is negative.
+// The non-negative remainder of c by p: the machine's, mended where it is negative. Kept in place of `rem_euclid`: document 01 asks
+// for remainders mended here (01.Change.5, 01.Shape.10).
 fn wrap(c: i64, p: usize) -> usize
     requires { (0 < p) × (p ≤ 2 * max_side) }
     ensures { result ≡ emod c p }
@@ -21,14 +22,9 @@ fn wrap(c: i64, p: usize) -> usize
 fn zero_at(c: i64, side: usize) -> Coord
     ensures { result ≡ resolved BorderMode.Zero c side }
 {
-    if c < 0 {
-        return Coord::Nothing;
-    }
-    let n = c as usize;
-    if n < side {
-        Coord::At(n)
-    } else {
-        Coord::Nothing
+    match usize::try_from(c) {
+        Ok(n) if n < side => Coord::At(n),
+        _ => Coord::Nothing,
     }
 }
 
@@ -36,11 +32,10 @@ fn clamp_at(c: i64, side: usize) -> usize
     requires { 0 < side }
     ensures { result ≡ clamp_of c side }
 {
-    if c < 0 {
-        return 0;
+    match usize::try_from(c) {
+        Ok(n) => n.min(side - 1),
+        Err(_) => 0,
     }
-    let n = c as usize;
-    if n < side { n } else { side - 1 }
 }
 
 fn mirror_at(c: i64, side: usize) -> usize
@@ -67,23 +62,24 @@ fn resolve(c: i64, side: usize, border: BorderMode) -> Coord
     }
 }
 
-// Resolves one coordinate; a side of 0 or over the limit is refused.
+// Resolves one coordinate; a side of 0 or over the limit is refused. Kept a `Coord` and no `Result` of an `Option`: document 01 asks
+// for an enum here (01.Change.4, 01.Shape.15).
 pub fn resolve_coord(coord: i64, side: usize, border: BorderMode) -> Coord
     ensures { coord_says result ≡ resolve_coord coord side border }
 {
-    if of_coord(side) != ACCEPTED {
-        return Coord::Refused;
+    match of_coord(side) {
+        Ok(()) => resolve(coord, side, border),
+        Err(_) => Coord::Refused,
     }
-    resolve(coord, side, border)
 }
 
-// Where coordinate at - half of a side is read, as a number: `side` itself where it is nowhere, or where the side is refused.
+// Where coordinate at - half of a side is read, as a number: `side` itself where it is nowhere, or where the side is refused. Kept a
+// number and no `Option`: `placed` is its contract, and each caller makes one test of it all the same, whether it is below the side.
 pub fn place(at: u32, half: u32, side: usize, border: BorderMode) -> usize
     ensures { result ≡ placed border (pos at -ℤ pos half) side }
 {
     match resolve_coord(at as i64 - half as i64, side, border) {
         Coord::At(i) => i,
-        Coord::Nothing => side,
-        Coord::Refused => side,
+        Coord::Nothing | Coord::Refused => side,
     }
 }

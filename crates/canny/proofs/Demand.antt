@@ -12,7 +12,7 @@ use Rattle.rules.specs.Joined.{Joined, Tells}
 use Rattle.rules.specs.Run.{suppressed_of, run_edges, count_of, cleared_scratch, canny, Roomy}
 use Rattle.rules.specs.declared.Size.{Size}
 use Rattle.rules.specs.declared.Thresholds.{Thresholds}
-use Rattle.rules.specs.declared.Counted.{Counted}
+use Rattle.rules.specs.Answers.{Counted}
 use Rattle.rules.proofs.Fill.{filled_at, take_filled, drop_filled}
 use Rattle.rules.proofs.Paths.{way_in}
 use Rattle.rules.proofs.Runs.{front, roomy}

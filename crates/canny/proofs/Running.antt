@@ -12,6 +12,10 @@ use Rattle.rules.specs.Picture.{area, tabulate, filled, cleared, tally}
 use Rattle.rules.specs.Sums.{plus_zero}
 use Rattle.rules.specs.Refusals.{first, Scratch, scratch, run_rows, start_rows}
 use Rattle.rules.specs.Run.{suppressed_under, suppressed_of, edges_of, run_edges, count_of, canny, Roomy}
+use Rattle.rules.specs.Answers.{number_of, run_answer}
+use Rattle.rules.specs.declared.refusal.Refusal.{Refusal}
+use Rattle.rules.proofs.Answers.{named}
+use Rattle.std.specs.Prelude.{Result, Ok, Err}
 use Rattle.rules.specs.declared.Size.{Size}
 use Rattle.rules.specs.declared.Thresholds.{Thresholds}
 use Rattle.rules.proofs.Fill.{length_tabulate, length_filled, filled_at, take_filled, drop_filled, tabulate_get_d}
@@ -23,17 +27,16 @@ use Rattle.canny.specs.Lent.{accepted, Run, Suppressed, Walkable, Walked}
 
 -- ---- what the whole answers
 
-module _ (d : Size) (pixels : List ℕ) (taps : List Float) (t : Thresholds) (s : Scratch) (out : List ℕ) {r : ℕ}
-    (number : r ≡ first (run_rows d pixels taps t s out)) where
-  pub refused : (r ≡ 0 → ⊥) → (record { refusal = r; count = 0 }, (out, s)) ≡ canny d pixels taps t s out
+module _ (d : Size) (pixels : List ℕ) (taps : List Float) (t : Thresholds) (s : Scratch) (out : List ℕ) where
+  pub refused : (r : Refusal) {a : Result ℕ Refusal} → a ≡ Err r → number_of r ≡ first (run_rows d pixels taps t s out)
+      → (run_answer a, (out, s)) ≡ canny d pixels taps t s out
   unfolding canny
-  refused n = rw (← number, ne_eqb r 0 n)
+  refused r e n = rw (e, ← n, ne_eqb (number_of r) 0 (named r))
 
-  pub made : {c : ℕ} {left : List ℕ × Scratch} → r ≡ 0 → (c, left) ≡ accepted d pixels taps t s out
-      → (record { refusal = 0; count = c }, left) ≡ canny d pixels taps t s out
+  pub made : {c : ℕ} {left : List ℕ × Scratch} → 0 ≡ first (run_rows d pixels taps t s out) → (c, left) ≡ accepted d pixels taps t s out
+      → (run_answer (Ok c), left) ≡ canny d pixels taps t s out
   unfolding canny
-  made z e =
-      ap (λ (p : ℕ × (List ℕ × Scratch)). (record { refusal = 0; count = p.0 }, p.1)) e ∙ rw (← number, z)
+  made n e = ap (λ (p : ℕ × (List ℕ × Scratch)). (record { refusal = 0; count = p.0 }, p.1)) e ∙ rw (← n)
 
 -- cleared after the stages is cleared from the start, where there is room
 clear_past : {A : Type 0} (n : ℕ) (z : A) (o l : List A) {r : List A} → drop n l ≡ drop n o → n ≤ length l → r ≡ cleared_to n z l → r ≡ cleared n z o

@@ -1,9 +1,9 @@
 -- The stages up to suppression, one after another over parts of the scratch: what they leave is the definition's. Assumes nothing.
 use mathlib.Core.Path.{◌≡◌, sym, ap, ap₂, ◌∙◌}
 use mathlib.Core.List.{List}
-use Prim.Native.Nat.{ℕ, ◌-◌, ◌≤◌}
+use Prim.Native.Nat.{ℕ, ◌≤◌}
 use native.Mathlib.Omega.{arith}
-use lib.ListN.{length, take, drop}
+use lib.ListN.{length, take}
 use lib.IntN.{ℤ}
 use lib.Ieee.{Float, nan}
 use Rattle.rules.specs.Picture.{area, tabulate, filled, cleared}
@@ -16,17 +16,17 @@ use Rattle.rules.specs.Calls.{painted, gaussian_blur, sobel_gradients, gradient_
 use Rattle.rules.specs.Run.{blurred_of, component_of, magnitudes_of, suppressed_under}
 use Rattle.rules.specs.declared.Size.{Size}
 use Rattle.rules.specs.declared.BorderMode.TheVariants.{Clamp}
-use Rattle.rules.proofs.Fill.{length_tabulate, length_filled, get_d_tabulate, take_filled, drop_filled, first_part, refill}
+use Rattle.rules.proofs.Fill.{length_tabulate, length_filled, get_d_tabulate, take_filled, drop_filled, refill}
 use Rattle.rules.proofs.Answers.{left_is}
 use Rattle.rules.proofs.Rows.{rows}
 use Rattle.canny.specs.Lent.{Run, Suppressed}
 
 -- the first entries of a buffer, as they are lent
 abbrev lent : {A : Type 0} → Size → List A → List A
-lent d l = take (area d - 0) (drop 0 l)
+lent d l = take (area d) l
 
 lent_filled : {A : Type 0} (d : Size) (f : ℕ → A) (o l : List A) → l ≡ filled (area d) f o → lent d l ≡ tabulate (area d) f
-lent_filled d f o l p = first_part (area d) l ∙ take_filled (area d) f o l p
+lent_filled d f o l p = take_filled (area d) f o l p
 
 long : {A : Type 0} (d : Size) (f : ℕ → A) (l : List A) → l ≡ tabulate (area d) f → length l ≡ area d
 long d f l p = ap length p ∙ length_tabulate (area d) f
@@ -53,6 +53,10 @@ module _ {d : Size} {pixels : List ℕ} {taps work magnitude : List Float} {gx g
   blur_accepted = sym (search rows depth 9)
 
   module _ {r : ℕ} {work' : List Float} {blurred' : List ℕ} (e : (r, (work', blurred')) ≡ gaussian_blur d Clamp pixels taps work blurred) where
+    pub blur_done : r ≡ 0
+    unfolding gaussian_blur
+    blur_done = ap (λ (p : ℕ × (List Float × List ℕ)). p.0) e ∙ blur_accepted
+
     both : ◌≡◌ {A = List Float × List ℕ} (work', blurred')
         (cleared (area d) plus_zero work, painted d (separable_at d (both_ways (length taps)) Clamp pixels taps taps) blurred)
     unfolding gaussian_blur
@@ -75,6 +79,10 @@ module _ {d : Size} {pixels : List ℕ} {taps work magnitude : List Float} {gx g
     gradient_accepted = let l = long d _ (lent d blurred') blurred_lent in sym (search rows depth 9)
 
     module _ {r₂ : ℕ} {gx' gy' : List ℤ} (e₂ : (r₂, (gx', gy')) ≡ sobel_gradients d Clamp (lent d blurred') gx gy) where
+      pub gradient_done : r₂ ≡ 0
+      unfolding sobel_gradients
+      gradient_done = ap (λ (p : ℕ × (List ℤ × List ℤ)). p.0) e₂ ∙ gradient_accepted
+
       components : ◌≡◌ {A = List ℤ × List ℤ} (gx', gy') (painted d (gradient_at gx_table d Clamp (B d pixels taps)) gx, painted d (gradient_at gy_table d Clamp (B d pixels taps)) gy)
       unfolding sobel_gradients
       components =
@@ -109,6 +117,10 @@ module _ {d : Size} {pixels : List ℕ} {taps work magnitude : List Float} {gx g
         magnitude_accepted : first (magnitude_rows d (lent d gx') (lent d gy') magnitude) ≡ 0
         magnitude_accepted = let x = x_long in let y = y_long in sym (search rows depth 9)
 
+        pub magnitude_done : r₃ ≡ 0
+        unfolding gradient_magnitude
+        magnitude_done = ap (λ (p : ℕ × List Float). p.0) e₃ ∙ magnitude_accepted
+
         magnitude_is : magnitude' ≡ filled (area d) (magnitude_at (X d pixels taps) (Y d pixels taps)) magnitude
         unfolding gradient_magnitude
         magnitude_is =
@@ -131,6 +143,10 @@ module _ {d : Size} {pixels : List ℕ} {taps work magnitude : List Float} {gx g
 
           suppression_accepted : first (suppression_rows d (lent d magnitude') (lent d gx') (lent d gy') work') ≡ 0
           suppression_accepted = let m = m_long in let x = x_long in let y = y_long in let l = room in sym (search rows depth 9)
+
+          pub suppression_done : r₄ ≡ 0
+          unfolding non_maximum_suppression
+          suppression_done = ap (λ (p : ℕ × List Float). p.0) e₄ ∙ suppression_accepted
 
           suppressed_is : work'' ≡ painted d (suppressed_at d (M d pixels taps) (X d pixels taps) (Y d pixels taps)) work'
           unfolding non_maximum_suppression

@@ -3,7 +3,7 @@
 use mathlib.Core.Path.{◌≡◌, refl, sym, ap, ◌∙◌}
 use mathlib.Core.Bool.{Bool, true, false, cond}
 use mathlib.Core.List.{List, [], ◌∷◌}
-use Prim.Native.Nat.{ℕ, ◌+◌, ◌-◌, ◌<◌, ◌≤◌}
+use Prim.Native.Nat.{ℕ, ◌+◌, ◌<◌, ◌≤◌}
 use native.Mathlib.Omega.{arith}
 use lib.Dec.{T, eqb}
 use lib.ListN.{length, get_or, take, drop}
@@ -16,13 +16,12 @@ use Rattle.rules.specs.Calls as Calls
 use Rattle.rules.specs.Calls.{walk_of, lent, after_start, after_slice, slice_takes}
 use Rattle.rules.specs.Joined.{Joined, Tells}
 use Rattle.rules.specs.Run.{end_of, edges_of, count_of}
+use Rattle.rules.specs.Answers.{Started, Sliced, Mapped}
 use Rattle.rules.specs.declared.Size.{Size}
 use Rattle.rules.specs.declared.Thresholds.{Thresholds}
-use Rattle.rules.specs.declared.Started.{Started}
-use Rattle.rules.specs.declared.Sliced.{Sliced}
-use Rattle.rules.specs.declared.Mapped.{Mapped}
+use Rattle.rules.specs.declared.Walk.{Walk}
 use Rattle.rules.proofs.Bools.{true_is, is_true}
-use Rattle.rules.proofs.Fill.{length_tabulate, get_d_tabulate, recount, first_part}
+use Rattle.rules.proofs.Fill.{length_tabulate, get_d_tabulate, recount}
 use Rattle.rules.proofs.Rows.{off, rows}
 use Rattle.rules.proofs.Tallies.{tally_eq}
 use Rattle.rules.proofs.Paths.{way_in, same_count}
@@ -160,23 +159,51 @@ module _ (d : Size) (t : Thresholds) (magnitudes : List Float) (marks stack : Li
       tally_eq _ (has 3 (end_of d t magnitudes).marks) (area d) (λ q l. ap (λ (v : ℕ). eqb v 255) (edge_at q l) ∙ is_edge (has 3 (end_of d t magnitudes).marks q))
       ∙ same_count d hi lo (has 3 (end_of d t magnitudes).marks) J told tells
 
--- ---- the three calls in turn
+-- ---- the three calls in turn: each is accepted
 
-pub walked : {d : Size} {t : Thresholds} {suppressed : List Float} {marks stack out : List ℕ} → Walkable d t suppressed marks stack out
-    → {r : Started} {m₁ s₁ : List ℕ} → (r, (m₁, s₁)) ≡ Calls.start d t (take (area d - 0) (drop 0 suppressed)) marks stack
-    → {r₂ : Sliced} {m₂ s₂ : List ℕ} → (r₂, (m₂, s₂)) ≡ Calls.slice r.walk (area d + 1) m₁ s₁
-    → {r₃ : Mapped} {out' : List ℕ} → (r₃, out') ≡ Calls.map r₂.walk m₂ s₂ out → Walked d t suppressed marks stack out m₂ s₂ out'
-walked {d} {t} {suppressed} {marks} {stack} {out} w e₁ e₂ {out' = out'} e₃ =
-    let S = take (area d) suppressed in
-    let at-start = (rw (first_part (area d) suppressed) at e₁) ∙ start_is d t S marks stack w.accepted in
-    let at-end =
-    e₂ ∙ ap (λ (a : Started × (List ℕ × List ℕ)). Calls.slice a.0.walk (area d + 1) a.1.0 a.1.1) at-start
-    ∙ slice_is d t S marks stack w.accepted in
-    let at_map =
-    e₃ ∙ ap (λ (a : Sliced × (List ℕ × List ℕ)). Calls.map a.0.walk a.1.0 a.1.1 out) at-end
-    ∙ map_is d t S marks stack w.accepted out w.room in
-    record {
-      is = edges_are d t S marks stack w.accepted out out' (ap (λ (a : Mapped × List ℕ). a.1) at_map);
-      marks_kept = ap (λ (a : Sliced × (List ℕ × List ℕ)). drop (area d) a.1.0) at-end ∙ (past d t S marks stack w.accepted).0;
-      stack_kept = ap (λ (a : Sliced × (List ℕ × List ℕ)). drop (area d) a.1.1) at-end ∙ (past d t S marks stack w.accepted).1;
-    }
+module _ {d : Size} {t : Thresholds} {suppressed : List Float} {marks stack out : List ℕ} (w : Walkable d t suppressed marks stack out) where
+  abbrev S : List Float
+  S = take (area d) suppressed
+
+  module _ {r : Started} {m₁ s₁ : List ℕ} (e₁ : (r, (m₁, s₁)) ≡ Calls.start d t S marks stack) where
+    at_start : ◌≡◌ {A = Started × (List ℕ × List ℕ)} (r, (m₁, s₁))
+        (record { refusal = 0; walk = walk_of d (begun d t S marks stack w.accepted).pending }, lent (begun d t S marks stack w.accepted))
+    at_start = e₁ ∙ start_is d t S marks stack w.accepted
+
+    pub start_done : r.refusal ≡ 0
+    start_done = ap (λ (a : Started × (List ℕ × List ℕ)). a.0.refusal) at_start
+
+    module _ {w₁ : Walk} (k₁ : r.walk ≡ w₁) {r₂ : Sliced} {m₂ s₂ : List ℕ} (e₂ : (r₂, (m₂, s₂)) ≡ Calls.slice w₁ (area d + 1) m₁ s₁) where
+      at_end : ◌≡◌ {A = Sliced × (List ℕ × List ℕ)} (r₂, (m₂, s₂)) (
+        record {
+          refusal = 0;
+          takes = takes d (area d + 1) (begun d t S marks stack w.accepted);
+          walk = walk_of d (ended d t S marks stack w.accepted).pending;
+        },
+        lent (ended d t S marks stack w.accepted),
+      )
+      at_end =
+          (rw (← k₁) at e₂)
+          ∙ ap (λ (a : Started × (List ℕ × List ℕ)). Calls.slice a.0.walk (area d + 1) a.1.0 a.1.1) at_start
+          ∙ slice_is d t S marks stack w.accepted
+
+      pub slice_done : r₂.refusal ≡ 0
+      slice_done = ap (λ (a : Sliced × (List ℕ × List ℕ)). a.0.refusal) at_end
+
+      module _ {w₂ : Walk} (k₂ : r₂.walk ≡ w₂) {r₃ : Mapped} {out' : List ℕ} (e₃ : (r₃, out') ≡ Calls.map w₂ m₂ s₂ out) where
+        at_map : ◌≡◌ {A = Mapped × List ℕ} (r₃, out')
+            (record { refusal = 0; walk = walk_of d (ended d t S marks stack w.accepted).pending }, mapped (area d) (ended d t S marks stack w.accepted).marks out)
+        at_map =
+            (rw (← k₂) at e₃)
+            ∙ ap (λ (a : Sliced × (List ℕ × List ℕ)). Calls.map a.0.walk a.1.0 a.1.1 out) at_end
+            ∙ map_is d t S marks stack w.accepted out w.room
+
+        pub map_done : r₃.refusal ≡ 0
+        map_done = ap (λ (a : Mapped × List ℕ). a.0.refusal) at_map
+
+        pub walked : Walked d t suppressed marks stack out m₂ s₂ out'
+        walked = record {
+          is = edges_are d t S marks stack w.accepted out out' (ap (λ (a : Mapped × List ℕ). a.1) at_map);
+          marks_kept = ap (λ (a : Sliced × (List ℕ × List ℕ)). drop (area d) a.1.0) at_end ∙ (past d t S marks stack w.accepted).0;
+          stack_kept = ap (λ (a : Sliced × (List ℕ × List ℕ)). drop (area d) a.1.1) at_end ∙ (past d t S marks stack w.accepted).1;
+        }

@@ -8,7 +8,7 @@ use Rattle.rules.specs.Joined.{Joined, Tells}
 use Rattle.rules.specs.Run.{suppressed_of, cleared_scratch, canny, Roomy}
 use Rattle.rules.specs.declared.Size.{Size}
 use Rattle.rules.specs.declared.Thresholds.{Thresholds}
-use Rattle.rules.specs.declared.Counted.{Counted}
+use Rattle.rules.specs.Answers.{Counted}
 
 module _ (d : Size) (pixels : List ℕ) (taps : List Float) (t : Thresholds) where
   -- a run with these buffers lent: its answer, the map, the scratch

@@ -1,174 +1,135 @@
 // A whole run over eight buffers full of poison, and what they hold after it. Accepted, the scratch is zero as far as the picture goes;
-// refused, all is poison. The buffers are lent in two steps, since a function is checked against all that it lends.
-use crate::case;
-use crate::lines::{bytes, edges_then, floats, shorts, words};
-use cases::{count, wide};
-use rules::{Counted, Thresholds};
+// refused, all is poison.
+use crate::case::{Buffer, Case, Poison};
+use canny::canny;
+use report::Entry;
+use rules::{Refusal, Thresholds, number};
 use std::io;
 
 pub(crate) const ROOM: usize = 1922;
 
-pub(crate) fn run(rt: &impl Print, v: &[u32; 80]) -> io::Result<()> {
-    let pixels = case::pixels(v);
-    let n = case::pixel_count(v);
-    let taps = case::taps(v);
-    let m = case::tap_count(v);
-    lend(rt, v, &pixels[0..n], &taps[0..m])
+pub(crate) fn run(rt: &impl Print, case: &Case) -> io::Result<()> {
+    let mut buffers = Buffers::of(case.poison);
+    let pending = match case.pending() {
+        None => None,
+        Some(_) => stop_walk(case, &mut buffers.marks, &mut buffers.stack).ok(),
+    };
+    let got = canny(
+        case.pixels(&mut [0; 1920]),
+        case.size(),
+        case.taps(&mut [0.0; 65]),
+        case.thresholds(),
+        &mut buffers.work[..case.room(Buffer::Work)],
+        &mut buffers.magnitude[..case.room(Buffer::Magnitude)],
+        &mut buffers.gx[..case.room(Buffer::Gx)],
+        &mut buffers.gy[..case.room(Buffer::Gy)],
+        &mut buffers.blurred[..case.room(Buffer::Blurred)],
+        &mut buffers.marks[..case.room(Buffer::Marks)],
+        &mut buffers.stack[..case.room(Buffer::Stack)],
+        &mut buffers.map[..case.room(Buffer::Map)],
+    );
+    answered(rt, case, got, pending, &buffers.map)?;
+    buffers.left(rt, case)
 }
 
-// Lends the first four.
-fn lend(rt: &impl Print, v: &[u32; 80], pixels: &[u8], taps: &[f32]) -> io::Result<()> {
-    let a = case::room(v, 1);
-    let b = case::room(v, 2);
-    let c = case::room(v, 3);
-    let d = case::room(v, 4);
-    let poison = case::poison_of(v);
-    let mut work = [poison.work; ROOM];
-    let mut magnitude = [poison.magnitude; ROOM];
-    let mut gx = [poison.gx; ROOM];
-    let mut gy = [poison.gy; ROOM];
-    lend_others(
-        rt,
-        v,
-        pixels,
-        taps,
-        &mut work[0..a],
-        &mut magnitude[0..b],
-        &mut gx[0..c],
-        &mut gy[0..d],
-    )?;
-    let n = count(v[case::ZEROED]);
-    report::yes(rt, b"  work", floats(&work, n, poison.work))?;
-    report::yes(rt, b"  magnitude", floats(&magnitude, n, poison.magnitude))?;
-    report::yes(rt, b"  gx", shorts(&gx, n, poison.gx))?;
-    report::yes(rt, b"  gy", shorts(&gy, n, poison.gy))?;
+#[derive(Clone, Copy)]
+struct Buffers {
+    work: [f32; ROOM],
+    magnitude: [f32; ROOM],
+    gx: [i16; ROOM],
+    gy: [i16; ROOM],
+    blurred: [u8; ROOM],
+    marks: [u8; ROOM],
+    stack: [u32; ROOM],
+    map: [u8; ROOM],
+}
+
+impl Buffers {
+    fn of(poison: Poison) -> Buffers {
+        Buffers {
+            work: [poison.work; ROOM],
+            magnitude: [poison.magnitude; ROOM],
+            gx: [poison.gx; ROOM],
+            gy: [poison.gy; ROOM],
+            blurred: [poison.blurred; ROOM],
+            marks: [poison.marks; ROOM],
+            stack: [poison.stack; ROOM],
+            map: [poison.map; ROOM],
+        }
+    }
+
+    fn left(&self, rt: &impl Print, case: &Case) -> io::Result<()> {
+        let n = case.zeroed();
+        let poison = case.poison;
+        let edges = (case.more_edges(), 255);
+        parts(rt, b"  blurred", &self.blurred, (n, 0), poison.blurred)?;
+        parts(rt, b"  marks", &self.marks, (n, 0), poison.marks)?;
+        parts(rt, b"  stack", &self.stack, (n, 0), poison.stack)?;
+        parts(
+            rt,
+            b"  the map from there on",
+            &self.map[48..],
+            edges,
+            poison.map,
+        )?;
+        parts(rt, b"  work", &self.work, (n, 0.0), poison.work)?;
+        parts(
+            rt,
+            b"  magnitude",
+            &self.magnitude,
+            (n, 0.0),
+            poison.magnitude,
+        )?;
+        parts(rt, b"  gx", &self.gx, (n, 0), poison.gx)?;
+        parts(rt, b"  gy", &self.gy, (n, 0), poison.gy)
+    }
+}
+
+// The line of whether a buffer's first entries, as many as said or all, are what is said, and the others another value.
+fn parts<T: Entry>(
+    rt: &impl Print,
+    name: &[u8],
+    buffer: &[T],
+    first: (usize, T),
+    rest: T,
+) -> io::Result<()> {
+    let (head, tail) = buffer.split_at(first.0.min(buffer.len()));
+    let good = report::all_are(head, first.1) && report::all_are(tail, rest);
+    report::yes(rt, name, good)?;
     Ok(())
 }
 
-fn lend_others(
-    rt: &impl Print,
-    v: &[u32; 80],
-    pixels: &[u8],
-    taps: &[f32],
-    work: &mut [f32],
-    magnitude: &mut [f32],
-    gx: &mut [i16],
-    gy: &mut [i16],
-) -> io::Result<()> {
-    let e = case::room(v, 5);
-    let f = case::room(v, 6);
-    let g = case::room(v, 7);
-    let h = case::room(v, 8);
-    let size = case::size(v);
-    let thresholds = case::thresholds(v);
-    let poison = case::poison_of(v);
-    let mut blurred = [poison.blurred; ROOM];
-    let mut marks = [poison.marks; ROOM];
-    let mut stack = [poison.stack; ROOM];
-    let mut map = [poison.map; ROOM];
-    let pending = stopped_walk(v, &mut marks, &mut stack);
-    let got = canny::canny(
-        pixels,
-        size,
-        taps,
-        thresholds,
-        work,
-        magnitude,
-        gx,
-        gy,
-        &mut blurred[0..e],
-        &mut marks[0..f],
-        &mut stack[0..g],
-        &mut map[0..h],
-    );
-    answered(rt, v, got, pending, &map)?;
-    left(rt, v, &blurred, &marks, &stack, &map)
-}
-
-// Leaves a walk of 48 strong pixels stopped after one, if the case wants one; how many are pending.
-fn stopped_walk(v: &[u32; 80], marks: &mut [u8], stack: &mut [u32]) -> usize {
-    if v[case::PENDING] == 0 {
-        return 0;
-    }
+// Leaves a walk of 48 strong pixels stopped after one; how many are pending.
+fn stop_walk(case: &Case, marks: &mut [u8], stack: &mut [u32]) -> Result<usize, Refusal> {
     let thresholds = Thresholds {
         low: 1.0,
         high: 2.0,
     };
-    let started = hysteresis::start(&[5.0; 48], case::size(v), thresholds, marks, stack);
-    hysteresis::slice(started.walk, 1, marks, stack)
-        .walk
-        .pending
+    let walk = hysteresis::start(&[5.0; 48], case.size(), thresholds, marks, stack)?;
+    Ok(hysteresis::slice(walk, 1, marks, stack)?.walk.pending)
 }
 
 // A run that is to give a map has it under the case's own name, any other its number.
 fn answered(
     rt: &impl Print,
-    v: &[u32; 80],
-    got: Counted,
-    pending: usize,
-    map: &[u8; 1922],
+    case: &Case,
+    got: Result<usize, Refusal>,
+    pending: Option<usize>,
+    map: &[u8; ROOM],
 ) -> io::Result<()> {
-    if v[case::MAP_FOLLOWS] == 0 {
-        report::number(rt, b"", got.refusal as u64, wide(v[case::REFUSAL]))?;
-        first_of_map(rt, b"  map", v, map)?;
-    } else {
-        first_of_map(rt, b"", v, map)?;
-        report::number(
-            rt,
-            b"  its number",
-            got.refusal as u64,
-            wide(v[case::REFUSAL]),
-        )?;
+    let refusal = u32::from(number(got));
+    match case.map() {
+        None => {
+            report::number(rt, b"", refusal, case.refusal())?;
+            report::list(rt, b"  map", &map[..48], &[case.poison.map; 48])?;
+        }
+        Some(wanted) => {
+            report::list(rt, b"", &map[..48], &wanted)?;
+            report::number(rt, b"  its number", refusal, case.refusal())?;
+        }
     }
-    report::number(rt, b"  count", got.count as u64, wide(v[case::COUNT]))?;
-    report::number(
-        rt,
-        b"  pending before",
-        pending as u64,
-        wide(v[case::PENDING]),
-    )?;
-    Ok(())
-}
-
-fn first_of_map(rt: &impl Print, name: &[u8], v: &[u32; 80], map: &[u8]) -> io::Result<()> {
-    let mut wanted = [case::poison_of(v).map; 48];
-    if v[case::MAP_FOLLOWS] != 0 {
-        case::map(v, &mut wanted);
-    }
-    beside(rt, name, map, &wanted)
-}
-
-fn beside(rt: &impl Print, name: &[u8], map: &[u8], wanted: &[u8; 48]) -> io::Result<()> {
-    if 48 <= map.len() {
-        report::bytes(rt, name, &map[0..48], wanted)?;
-    }
-    Ok(())
-}
-
-fn left(
-    rt: &impl Print,
-    v: &[u32; 80],
-    blurred: &[u8; 1922],
-    marks: &[u8; 1922],
-    stack: &[u32; 1922],
-    map: &[u8; 1922],
-) -> io::Result<()> {
-    let poison = case::poison_of(v);
-    let n = count(v[case::ZEROED]);
-    report::yes(rt, b"  blurred", bytes(blurred, n, poison.blurred))?;
-    report::yes(rt, b"  marks", bytes(marks, n, poison.marks))?;
-    report::yes(rt, b"  stack", words(stack, n, poison.stack))?;
-    rest_of_map(rt, v, map, poison.map)
-}
-
-fn rest_of_map(rt: &impl Print, v: &[u32; 80], map: &[u8], poison: u8) -> io::Result<()> {
-    if 48 <= map.len() {
-        let more = count(v[case::MORE_EDGES]);
-        report::yes(
-            rt,
-            b"  the map from there on",
-            edges_then(&map[48..], more, poison),
-        )?;
-    }
+    report::number(rt, b"  count", got.unwrap_or(0), case.edges())?;
+    let left = pending.unwrap_or(0);
+    report::number(rt, b"  pending before", left, case.pending().unwrap_or(0))?;
     Ok(())
 }

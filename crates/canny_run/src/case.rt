@@ -1,14 +1,13 @@
-// What the numbers of a case mean, by their places in its line.
-ghost use Rattle.std.specs.Prelude.{◌≤◌, length, ◌≡◌};
+// What the numbers of a case mean, by their places in its row.
+ghost use Rattle.std.specs.Prelude.{◌≤◌};
 
 use crate::buffers::ROOM;
-use cases::count;
-use rules::codes::float;
+use cases::Row;
 use rules::{Size, Thresholds};
 
 // What each buffer holds before the call. No two of one type hold the same, and no run leaves it there, so that an entry of one buffer that
 // comes into another shows.
-#[derive(Drop)]
+#[derive(Clone, Copy)]
 pub(crate) struct Poison {
     pub(crate) work: f32,
     pub(crate) magnitude: f32,
@@ -20,10 +19,9 @@ pub(crate) struct Poison {
     pub(crate) map: u8,
 }
 
-// Place 0: which poison, 1 or 2; 0 is no case.
-pub(crate) fn poison_of(case: &[u32; 80]) -> Poison {
-    if case[0] == 1 {
-        return Poison {
+impl Poison {
+    fn first() -> Poison {
+        Poison {
             work: report::nan(),
             magnitude: report::infinity(),
             gx: -32768,
@@ -32,117 +30,133 @@ pub(crate) fn poison_of(case: &[u32; 80]) -> Poison {
             marks: 253,
             stack: 4294967295,
             map: 7,
-        };
-    }
-    Poison {
-        work: report::infinity(),
-        magnitude: 255.0,
-        gx: 1020,
-        gy: -1020,
-        blurred: 128,
-        marks: 3,
-        stack: 5,
-        map: 254,
-    }
-}
-
-// Places 1 and 2.
-pub(crate) fn size(case: &[u32; 80]) -> Size {
-    Size {
-        width: count(case[1]),
-        height: count(case[2]),
-    }
-}
-
-fn at_most(n: u32, most: usize) -> usize
-    ensures { result ≤ most }
-{
-    let n = n as usize;
-    if most < n {
-        return most;
-    }
-    n
-}
-
-// Places 3 to 6: how many pixels there are, all of one grey but for a bar in a picture 8 wide, which is brighter at its left end.
-pub(crate) fn pixel_count(case: &[u32; 80]) -> usize
-    ensures { result ≤ 1920 }
-{
-    at_most(case[3], 1920)
-}
-
-pub(crate) fn pixels(case: &[u32; 80]) -> [u8; 1920]
-    ensures { 1920 ≡ length result }
-{
-    let mut pixels = [(case[4] % 256) as u8; 1920];
-    let bright = (case[5] % 256) as u8;
-    let bar = (case[6] % 256) as u8;
-    pixels[18] = bright;
-    pixels[19] = bar;
-    pixels[20] = bar;
-    pixels[21] = bar;
-    pixels[26] = bright;
-    pixels[27] = bar;
-    pixels[28] = bar;
-    pixels[29] = bar;
-    pixels
-}
-
-// Places 7 to 10: how many taps, the first and all from the fourth on, the second and the third.
-pub(crate) fn tap_count(case: &[u32; 80]) -> usize
-    ensures { result ≤ 65 }
-{
-    at_most(case[7], 65)
-}
-
-pub(crate) fn taps(case: &[u32; 80]) -> [f32; 65]
-    ensures { 65 ≡ length result }
-{
-    let mut taps = [float(case[8]); 65];
-    taps[1] = float(case[9]);
-    taps[2] = float(case[10]);
-    taps
-}
-
-// Places 11 and 12.
-pub(crate) fn thresholds(case: &[u32; 80]) -> Thresholds {
-    Thresholds {
-        low: float(case[11]),
-        high: float(case[12]),
-    }
-}
-
-// Places 13 and 14: how many entries of each buffer are lent, and which buffer, counted from 1 in the call's order, is lent one fewer.
-pub(crate) fn room(case: &[u32; 80], buffer: u32) -> usize
-    ensures { result ≤ 1922 }
-{
-    let length = at_most(case[13], ROOM);
-    if 0 < length {
-        if case[14] == buffer {
-            return length - 1;
         }
     }
-    length
+
+    fn second() -> Poison {
+        Poison {
+            work: report::infinity(),
+            magnitude: 255.0,
+            gx: 1020,
+            gy: -1020,
+            blurred: 128,
+            marks: 3,
+            stack: 5,
+            map: 254,
+        }
+    }
 }
 
-// Place 15: what is left pending of a walk that was stopped in the marks and the stack before the call; 0 is no walk. Places 16 to 18: how
-// many entries of the scratch are zero after the call, its number and its count. Place 19: how many entries of the map from the 48th on
-// are 255. Place 20: whether the first 48 entries of the map follow; else they are as before.
-pub(crate) const PENDING: usize = 15;
+// The buffers in the call's order, counted from 1.
+#[derive(Clone, Copy)]
+pub(crate) enum Buffer {
+    Work = 1,
+    Magnitude,
+    Gx,
+    Gy,
+    Blurred,
+    Marks,
+    Stack,
+    Map,
+}
 
-pub(crate) const ZEROED: usize = 16;
+#[derive(Clone, Copy)]
+pub(crate) struct Case<'a> {
+    row: &'a Row,
+    pub(crate) poison: Poison,
+}
 
-pub(crate) const REFUSAL: usize = 17;
+impl<'a> Case<'a> {
+    // Place 0: which poison, 1 or 2; 0 is no case.
+    pub(crate) fn of(row: &'a Row) -> Option<Case<'a>> {
+        let poison = match row.number::<u32>(0) {
+            0 => return None,
+            1 => Poison::first(),
+            _ => Poison::second(),
+        };
+        Some(Case { row, poison })
+    }
 
-pub(crate) const COUNT: usize = 18;
+    // Places 1 and 2.
+    pub(crate) fn size(&self) -> Size {
+        Size {
+            width: self.row.number(1),
+            height: self.row.number(2),
+        }
+    }
 
-pub(crate) const MORE_EDGES: usize = 19;
+    // Places 3 to 6: how many pixels there are, all of one grey but for a bar in a picture 8 wide, which is brighter at its left end.
+    pub(crate) fn pixels<'b>(&self, room: &'b mut [u8; 1920]) -> &'b [u8] {
+        let bright = self.row.number(5);
+        let bar = self.row.number(6);
+        room.fill(self.row.number(4));
+        for line in [18, 26] {
+            room[line] = bright;
+            room[line + 1..line + 4].fill(bar);
+        }
+        &room[..self.row.at_most(3, 1920)]
+    }
 
-pub(crate) const MAP_FOLLOWS: usize = 20;
+    // Places 7 to 10: how many taps, the first and all from the fourth on, the second and the third.
+    pub(crate) fn taps<'b>(&self, room: &'b mut [f32; 65]) -> &'b [f32] {
+        room.fill(self.row.number(8));
+        room[1] = self.row.number(9);
+        room[2] = self.row.number(10);
+        &room[..self.row.at_most(7, 65)]
+    }
 
-// The map's first 48 entries, if they follow.
-pub(crate) fn map(case: &[u32], wanted: &mut [u8]) {
-    if 69 <= case.len() {
-        cases::bytes(&case[21..69], wanted);
+    // Places 11 and 12. Not one function with `size`: each fills a record's fields by their names.
+    pub(crate) fn thresholds(&self) -> Thresholds {
+        Thresholds {
+            low: self.row.number(11),
+            high: self.row.number(12),
+        }
+    }
+
+    // Places 13 and 14: how many entries of each buffer are lent, and which buffer is lent one fewer.
+    pub(crate) fn room(&self, buffer: Buffer) -> usize
+        ensures { result ≤ 1922 }
+    {
+        let length = self.row.at_most(13, ROOM);
+        if self.row.number::<u32>(14) == buffer as u32 {
+            return length.saturating_sub(1);
+        }
+        length
+    }
+
+    // Place 15: what is left pending of a walk that was stopped in the marks and the stack before the call, if any was.
+    pub(crate) fn pending(&self) -> Option<usize> {
+        match self.row.number(15) {
+            0 => None,
+            pending => Some(pending),
+        }
+    }
+
+    // Places 16 to 18: how many entries of the scratch are zero after the call, its number and how many edges it counts.
+    pub(crate) fn zeroed(&self) -> usize {
+        self.row.number(16)
+    }
+
+    pub(crate) fn refusal(&self) -> u32 {
+        self.row.number(17)
+    }
+
+    pub(crate) fn edges(&self) -> usize {
+        self.row.number(18)
+    }
+
+    // Place 19: how many entries of the map from the 48th on are 255.
+    pub(crate) fn more_edges(&self) -> usize {
+        self.row.number(19)
+    }
+
+    // Place 20: whether the first 48 entries of the map follow; else they are as before.
+    pub(crate) fn map(&self) -> Option<[u8; 48]> {
+        if self.row.number::<u32>(20) == 0 {
+            return None;
+        }
+        let mut wanted = [0; 48];
+        self.row.list(21, &mut wanted);
+        Some(wanted)
     }
 }

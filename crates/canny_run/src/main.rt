@@ -4,8 +4,9 @@
 
 mod buffers;
 mod case;
-mod lines;
 
+use case::Case;
+use cases::Text;
 use std::io;
 
 // More bytes than the file has.
@@ -14,21 +15,11 @@ const TEXT: usize = 65536;
 fn main(rt: HostRuntime) -> io::Result<()> {
     let mut text = [0u8; TEXT];
     let n = cases::read_full(&mut rt.stdin(), &mut text)?;
-    lines_of(&rt, &text[..n])
-}
-
-fn lines_of(rt: &impl Print, text: &[u8]) -> io::Result<()> {
-    let mut at = 0;
-    while at < text.len() {
-        let case = cases::case(rt, text, &mut at)?;
-        line(rt, &case)?;
-    }
-    Ok(())
-}
-
-fn line(rt: &impl Print, case: &[u32; 80]) -> io::Result<()> {
-    if case[0] != 0 {
-        buffers::run(rt, case)?;
+    for mut place in Text::new(&text[..n]).cases() {
+        let row = place.row(&rt)?;
+        if let Some(case) = Case::of(&row) {
+            buffers::run(&rt, &case)?;
+        }
     }
     Ok(())
 }

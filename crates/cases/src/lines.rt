@@ -1,129 +1,83 @@
 // The lines of what a call answered and left, beside what the case wants. They only write.
-use crate::fields::ROOM;
-use crate::shape::wanted;
-use crate::{fields, wide};
+use crate::{Line, Number, ROOM};
+use report::Entry;
 use std::io;
 
-// The call's number.
-pub fn number(rt: &impl Print, name: &[u8], line: &[u8], got: u8) -> io::Result<()> {
-    report::number(rt, name, got as u64, wide(wanted(line)))?;
-    Ok(())
+// The call's number, as an export answers it.
+pub fn number(rt: &impl Print, name: &[u8], line: &Line, got: u8) -> io::Result<()> {
+    count(rt, name, line, b"number", u32::from(got))
 }
 
 // A number, beside the one of a field.
-pub fn count(rt: &impl Print, name: &[u8], line: &[u8], field: &[u8], got: u64) -> io::Result<()> {
-    report::number(rt, name, got, wide(fields::number(line, field)))?;
+pub fn count<T: Number>(
+    rt: &impl Print,
+    name: &[u8],
+    line: &Line,
+    field: &[u8],
+    got: T,
+) -> io::Result<()> {
+    report::number(rt, name, got, line.number(field))?;
     Ok(())
 }
 
 // A buffer, beside what is wanted there: what it held before, but for the values of the field `after`.
-pub fn bytes(
+pub fn list<T: Number>(
     rt: &impl Print,
     name: &[u8],
-    line: &[u8],
+    line: &Line,
     before: &[u8],
     after: &[u8],
-    got: &[u8],
+    got: &[T],
 ) -> io::Result<()> {
-    let mut wanted = [0u8; ROOM];
-    let n = fields::bytes(line, before, &mut wanted);
-    fields::bytes(line, after, &mut wanted);
-    report::bytes(rt, name, got, &wanted[0..n])?;
-    Ok(())
-}
-
-pub fn floats(
-    rt: &impl Print,
-    name: &[u8],
-    line: &[u8],
-    before: &[u8],
-    after: &[u8],
-    got: &[f32],
-) -> io::Result<()> {
-    let mut wanted = [0.0f32; ROOM];
-    let n = fields::floats(line, before, &mut wanted);
-    fields::floats(line, after, &mut wanted);
-    report::floats(rt, name, got, &wanted[0..n])?;
-    Ok(())
-}
-
-pub fn numbers(
-    rt: &impl Print,
-    name: &[u8],
-    line: &[u8],
-    before: &[u8],
-    after: &[u8],
-    got: &[i16],
-) -> io::Result<()> {
-    let mut wanted = [0i16; ROOM];
-    let n = fields::numbers(line, before, &mut wanted);
-    fields::numbers(line, after, &mut wanted);
-    report::numbers(rt, name, got, &wanted[0..n])?;
-    Ok(())
-}
-
-pub fn places(
-    rt: &impl Print,
-    name: &[u8],
-    line: &[u8],
-    before: &[u8],
-    after: &[u8],
-    got: &[u32],
-) -> io::Result<()> {
-    let mut wanted = [0u32; ROOM];
-    let n = fields::places(line, before, &mut wanted);
-    fields::places(line, after, &mut wanted);
-    report::places(rt, name, got, &wanted[0..n])?;
+    let mut room = [T::from_pattern(0); ROOM];
+    let wanted = line.list(before, &mut room);
+    line.list(after, wanted);
+    report::list(rt, name, got, wanted)?;
     Ok(())
 }
 
 // An accepted call has its output under the case's own name, a refused one its number.
-pub fn bytes_or_number(rt: &impl Print, line: &[u8], got: u8, out: &[u8]) -> io::Result<()> {
-    if wanted(line) == 0 {
-        bytes(rt, b"", line, b"out", b"out-after", out)?;
-        return number(rt, b"  its number", line, got);
-    }
-    number(rt, b"", line, got)?;
-    bytes(rt, b"  its bytes", line, b"out", b"out-after", out)
-}
-
-pub fn floats_or_number(rt: &impl Print, line: &[u8], got: u8, out: &[f32]) -> io::Result<()> {
-    if wanted(line) == 0 {
-        floats(rt, b"", line, b"out", b"out-after", out)?;
-        return number(rt, b"  its number", line, got);
-    }
-    number(rt, b"", line, got)?;
-    floats(rt, b"  its floats", line, b"out", b"out-after", out)
-}
-
-// Of the largest pictures: whether the first entries are all what the case says, as many as it says, and the others the 7 that they were.
-pub fn largest(
+pub fn list_or_number<T: Number>(
     rt: &impl Print,
-    line: &[u8],
-    out: &[u8],
-    first: &[u8],
-    rest: &[u8],
+    line: &Line,
+    got: u8,
+    kind: &[u8],
+    out: &[T],
 ) -> io::Result<()> {
-    let n = fields::lent(line, b"first", out.len());
-    if 0 < n {
-        report::yes(
-            rt,
-            first,
-            report::all_are(&out[0..n], (fields::number(line, b"are") % 256) as u8),
-        )?;
+    if line.wanted() == 0 {
+        list(rt, b"", line, b"out", b"out-after", out)?;
+        return number(rt, b"  its number", line, got);
     }
-    report::yes(rt, rest, report::all_are(&out[n..], 7))?;
+    number(rt, b"", line, got)?;
+    list(rt, kind, line, b"out", b"out-after", out)
+}
+
+// Of the largest pictures: whether the first entries are all what the case says, as many as it says, and the others what they were before.
+// Each of the two has its name and its entry.
+pub fn parts<T: Entry>(
+    rt: &impl Print,
+    line: &Line,
+    out: &[T],
+    first: (&[u8], T),
+    rest: (&[u8], T),
+) -> io::Result<()> {
+    let n = line.lent(b"first", out.len());
+    report::yes(rt, first.0, report::all_are(&out[..n], first.1))?;
+    report::yes(rt, rest.0, report::all_are(&out[n..], rest.1))?;
     Ok(())
 }
 
-// The same of a component, which is 0 there.
-pub fn flat(rt: &impl Print, line: &[u8], component: &[i16], before: i16) -> io::Result<()> {
-    let n = fields::lent(line, b"first", component.len());
-    report::yes(rt, b"  all 0", report::numbers_are(&component[0..n], 0))?;
-    report::yes(
-        rt,
-        b"  past the picture",
-        report::numbers_are(&component[n..], before),
-    )?;
-    Ok(())
+// The same, but that nothing is said of first entries where there are none.
+pub fn largest<T: Entry>(
+    rt: &impl Print,
+    line: &Line,
+    out: &[T],
+    first: (&[u8], T),
+    rest: (&[u8], T),
+) -> io::Result<()> {
+    if line.lent(b"first", out.len()) == 0 {
+        report::yes(rt, rest.0, report::all_are(out, rest.1))?;
+        return Ok(());
+    }
+    parts(rt, line, out, first, rest)
 }

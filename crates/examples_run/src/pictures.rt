@@ -1,235 +1,131 @@
-// The calls that make a byte picture of a byte picture, and the resolver.
-use crate::lines;
-use crate::shape::{border, height, width};
-use cases::fields;
-use cases::fields::{ROOM, calls};
-use filters::box_blur::BoxBlurFilter;
+// The calls that make a byte picture of a byte picture with no work buffer, and the resolver.
+use crate::call::Picture;
+use cases::{Line, ROOM, lines};
 use filters::sharpen::SharpenFilter;
 use gradient::sobel::SobelFilter;
 use kelontsira::filtering::{
-    kelontsira_apply_kernel, kelontsira_apply_separable_kernel, kelontsira_box_blur,
-    kelontsira_gaussian_blur, kelontsira_median, kelontsira_resolve_coord, kelontsira_sharpen,
+    kelontsira_apply_kernel, kelontsira_median, kelontsira_resolve_coord, kelontsira_sharpen,
     kelontsira_sobel,
 };
 use median::MedianFilter;
-use rules::Size;
+use rules::number;
 use std::io;
 
-// Whether the case is one of these.
-pub(crate) fn run(rt: &impl Print, line: &[u8]) -> io::Result<bool> {
-    if calls(line, b"resolve_coord") {
-        resolved(rt, line)?;
-        return Ok(true);
-    }
-    if fields::has(line, b"work") {
-        blur(rt, line)?;
-        return Ok(true);
-    }
-    if is_unweighted(line) | calls(line, b"apply_kernel") {
-        picture(rt, line)?;
-        return Ok(true);
-    }
-    Ok(false)
-}
+// What stands for the place of a coordinate that is nowhere, and of one that is refused.
+const NOWHERE: usize = 1000;
 
-fn is_unweighted(line: &[u8]) -> bool {
-    calls(line, b"sharpen") | calls(line, b"sobel") | calls(line, b"median")
-}
+const REFUSED: usize = 2000;
 
-// Where a coordinate is read; 1000 is nowhere, 2000 refused.
-fn resolved(rt: &impl Print, line: &[u8]) -> io::Result<()> {
-    let side = fields::size(line, b"side");
+// Where a coordinate is read.
+pub(crate) fn resolved(rt: &impl Print, line: &Line) -> io::Result<()> {
+    let side = line.number(b"side");
     let mut place = 0;
-    let refusal = kelontsira_resolve_coord(coordinate(line), side, border(line), &mut place);
-    report::number(
-        rt,
-        b"",
-        told(refusal, place, side),
-        cases::wide(fields::number(line, b"place")),
-    )?;
-    Ok(())
-}
-
-fn told(refusal: u8, place: usize, side: usize) -> u64 {
-    if refusal != 0 {
-        return 2000;
-    }
-    if place == side {
-        return 1000;
-    }
-    place as u64
+    let refusal = kelontsira_resolve_coord(coord(line), side, line.border(), &mut place);
+    let got = match refusal {
+        0 if place == side => NOWHERE,
+        0 => place,
+        _ => REFUSED,
+    };
+    lines::count(rt, b"", line, b"place", got)
 }
 
 // A number, or one of the words least and greatest.
-fn coordinate(line: &[u8]) -> i64 {
-    match fields::initial(line, b"coord") {
-        b'l' => -9223372036854775807i64 - 1,
-        b'g' => 9223372036854775807i64,
-        _ => signed(fields::number(line, b"coord")),
+fn coord(line: &Line) -> i64 {
+    match line.initial(b"coord") {
+        Some(b'l') => i64::MIN,
+        Some(b'g') => i64::MAX,
+        _ => i64::from(line.number::<u32>(b"coord").cast_signed()),
     }
 }
 
-// The signed number of a pattern.
-fn signed(bits: u32) -> i64 {
-    if bits < 0x8000_0000 {
-        return bits as i64;
-    }
-    -1 - ((0xffff_ffff - bits) as i64)
-}
-
-fn picture(rt: &impl Print, line: &[u8]) -> io::Result<()> {
+pub(crate) fn run(rt: &impl Print, line: &Line, picture: Picture) -> io::Result<()> {
     let mut pixels = [0u8; ROOM];
     let mut out = [0u8; ROOM];
-    let n = fields::bytes(line, b"pixels", &mut pixels);
-    let m = fields::bytes(line, b"out", &mut out);
-    let got = called(line, &pixels[0..n], &mut out[0..m]);
-    left(rt, line, got, &out, m)
-}
-
-fn left(rt: &impl Print, line: &[u8], got: u8, out: &[u8; ROOM], n: usize) -> io::Result<()> {
-    let stage = calls(line, b"sobel") | calls(line, b"median");
-    if fields::has(line, b"first") {
-        lines::number(rt, b"", line, got)?;
-        if stage {
-            lines::largest(rt, line, out, n, b"  all the same", b"  past the picture")?;
-        } else {
-            lines::largest(rt, line, out, n, b"  all copied", b"  kept from there on")?;
-        }
-        return Ok(());
-    }
-    if stage {
-        lines::number(rt, b"", line, got)?;
-        return lines::bytes(rt, b"  its bytes", line, b"out", b"out-after", out, n);
-    }
-    lines::bytes_or_number(rt, line, got, out, n)
-}
-
-fn called(line: &[u8], pixels: &[u8], out: &mut [u8]) -> u8 {
-    if fields::has(line, b"made") {
-        return made(line, pixels, out);
-    }
-    if calls(line, b"apply_kernel") {
-        return kernel(line, pixels, out);
-    }
-    if calls(line, b"sharpen") {
-        return kelontsira_sharpen(pixels, width(line), height(line), border(line), out);
-    }
-    if calls(line, b"sobel") {
-        return kelontsira_sobel(pixels, width(line), height(line), border(line), out);
-    }
-    let window = fields::size(line, b"window");
-    kelontsira_median(pixels, width(line), height(line), window, border(line), out)
-}
-
-// The filters as they are made without a border: by new, default, DEFAULT, or by new with the default size.
-fn made(line: &[u8], pixels: &[u8], out: &mut [u8]) -> u8 {
-    let size = Size {
-        width: width(line),
-        height: height(line),
+    let pixels = line.list(b"pixels", &mut pixels);
+    let out = line.list(b"out", &mut out);
+    let got = if line.has(b"made") {
+        made(line, picture, pixels, out)
+    } else {
+        called(line, picture, pixels, out)
     };
-    if calls(line, b"sharpen") {
-        return SharpenFilter::new().apply(pixels, size, out);
-    }
-    if calls(line, b"sobel") {
-        return sobel_filter(line).apply(pixels, size, out);
-    }
-    median_filter(line).apply(pixels, size, out)
+    left(rt, line, picture, got, out)
 }
 
-fn sobel_filter(line: &[u8]) -> SobelFilter {
-    match fields::initial(line, b"made") {
-        b'n' => SobelFilter::new(),
-        b'd' => SobelFilter::default(),
+// The stages are shown in another way than the filters.
+fn left(rt: &impl Print, line: &Line, picture: Picture, got: u8, out: &[u8]) -> io::Result<()> {
+    let is_stage = match picture {
+        Picture::Sobel | Picture::Median => true,
+        Picture::ApplyKernel | Picture::Sharpen => false,
+    };
+    if line.has(b"first") {
+        lines::number(rt, b"", line, got)?;
+        let (first, rest): (&[u8], &[u8]) = if is_stage {
+            (b"  all the same", b"  past the picture")
+        } else {
+            (b"  all copied", b"  kept from there on")
+        };
+        return lines::largest(rt, line, out, (first, line.number(b"are")), (rest, 7));
+    }
+    if is_stage {
+        lines::number(rt, b"", line, got)?;
+        return lines::list(rt, b"  its bytes", line, b"out", b"out-after", out);
+    }
+    lines::list_or_number(rt, line, got, b"  its bytes", out)
+}
+
+fn called(line: &Line, picture: Picture, pixels: &[u8], out: &mut [u8]) -> u8 {
+    let size = line.size();
+    let border = line.border();
+    match picture {
+        Picture::ApplyKernel => kernel(line, pixels, out),
+        Picture::Sharpen => kelontsira_sharpen(pixels, size.width, size.height, border, out),
+        Picture::Sobel => kelontsira_sobel(pixels, size.width, size.height, border, out),
+        Picture::Median => {
+            let window = line.number(b"window");
+            kelontsira_median(pixels, size.width, size.height, window, border, out)
+        }
+    }
+}
+
+fn kernel(line: &Line, pixels: &[u8], out: &mut [u8]) -> u8 {
+    let mut weights = [0.0f32; ROOM];
+    let size = line.size();
+    kelontsira_apply_kernel(
+        pixels,
+        size.width,
+        size.height,
+        line.number(b"columns"),
+        line.number(b"rows"),
+        line.list(b"weights", &mut weights),
+        line.border(),
+        out,
+    )
+}
+
+// The filters as they are made without a border: by new, default, DEFAULT, or by new with the default size. A kernel has no
+// filter: a case that asks for one, and none does, has the median.
+fn made(line: &Line, picture: Picture, pixels: &[u8], out: &mut [u8]) -> u8 {
+    let size = line.size();
+    number(match picture {
+        Picture::Sharpen => SharpenFilter::new().apply(pixels, size, out),
+        Picture::Sobel => sobel_filter(line).apply(pixels, size, out),
+        Picture::ApplyKernel | Picture::Median => median_filter(line).apply(pixels, size, out),
+    })
+}
+
+fn sobel_filter(line: &Line) -> SobelFilter {
+    match line.initial(b"made") {
+        Some(b'n') => SobelFilter::new(),
+        Some(b'd') => SobelFilter::default(),
         _ => SobelFilter::DEFAULT,
     }
 }
 
-fn median_filter(line: &[u8]) -> MedianFilter {
-    match fields::initial(line, b"made") {
-        b'n' => MedianFilter::new(fields::size(line, b"window")),
-        b'd' => MedianFilter::default(),
-        b's' => MedianFilter::new(MedianFilter::DEFAULT_SIZE),
+fn median_filter(line: &Line) -> MedianFilter {
+    match line.initial(b"made") {
+        Some(b'n') => MedianFilter::new(line.number(b"window")),
+        Some(b'd') => MedianFilter::default(),
+        Some(b's') => MedianFilter::new(MedianFilter::DEFAULT_SIZE),
         _ => MedianFilter::DEFAULT,
     }
-}
-
-fn kernel(line: &[u8], pixels: &[u8], out: &mut [u8]) -> u8 {
-    let mut weights = [0.0f32; ROOM];
-    let n = fields::floats(line, b"weights", &mut weights);
-    kelontsira_apply_kernel(
-        pixels,
-        width(line),
-        height(line),
-        fields::size(line, b"columns"),
-        fields::size(line, b"rows"),
-        &weights[0..n],
-        border(line),
-        out,
-    )
-}
-
-// The calls with a work buffer, all of which is shown, also where less of it was lent.
-fn blur(rt: &impl Print, line: &[u8]) -> io::Result<()> {
-    let mut pixels = [0u8; ROOM];
-    let n = fields::bytes(line, b"pixels", &mut pixels);
-    lend(rt, line, &pixels[0..n])
-}
-
-fn lend(rt: &impl Print, line: &[u8], pixels: &[u8]) -> io::Result<()> {
-    let mut work = [0.0f32; ROOM];
-    let mut out = [0u8; ROOM];
-    let k = fields::floats(line, b"work", &mut work);
-    let n = fields::lent(line, b"work-lent", k);
-    let m = fields::bytes(line, b"out", &mut out);
-    let got = blurred(line, pixels, &mut work[0..n], &mut out[0..m]);
-    lines::bytes_or_number(rt, line, got, &out, m)?;
-    lines::floats(rt, b"  work", line, b"work", b"work-after", &work, k)
-}
-
-fn blurred(line: &[u8], pixels: &[u8], work: &mut [f32], out: &mut [u8]) -> u8 {
-    if calls(line, b"box_blur") {
-        return boxed(line, pixels, work, out);
-    }
-    let mut across = [0.0f32; ROOM];
-    let n = fields::floats(line, b"across", &mut across);
-    if calls(line, b"gaussian_blur") {
-        return kelontsira_gaussian_blur(
-            pixels,
-            width(line),
-            height(line),
-            &across[0..n],
-            border(line),
-            work,
-            out,
-        );
-    }
-    separable(line, pixels, &across[0..n], work, out)
-}
-
-fn boxed(line: &[u8], pixels: &[u8], work: &mut [f32], out: &mut [u8]) -> u8 {
-    if fields::has(line, b"made") {
-        let size = Size {
-            width: width(line),
-            height: height(line),
-        };
-        return BoxBlurFilter::new().apply(pixels, size, work, out);
-    }
-    kelontsira_box_blur(pixels, width(line), height(line), border(line), work, out)
-}
-
-fn separable(line: &[u8], pixels: &[u8], across: &[f32], work: &mut [f32], out: &mut [u8]) -> u8 {
-    let mut down = [0.0f32; ROOM];
-    let m = fields::floats(line, b"down", &mut down);
-    kelontsira_apply_separable_kernel(
-        pixels,
-        width(line),
-        height(line),
-        fields::size(line, b"told-across"),
-        fields::size(line, b"told-down"),
-        across,
-        &down[0..m],
-        border(line),
-        work,
-        out,
-    )
 }

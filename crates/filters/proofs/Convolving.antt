@@ -2,15 +2,16 @@
 use mathlib.Core.Path.{◌≡◌, refl, sym, ap, ap₂, ◌∙◌, fun_ext}
 use mathlib.Core.List.{List}
 use Prim.Native.Nat.{ℕ, ◌+◌, ◌*◌, ◌<◌, ◌≤◌}
-use native.Mathlib.Nat.{mul-one, min-eq_left}
+use native.Mathlib.Nat.{mul-one, one-mul, min-eq_left}
 use native.Mathlib.Omega.{arith}
 use lib.ListN.{length}
 use lib.Ieee.{Float, nan}
 use Rattle.rules.specs.Limits.{max_kernel, max_taps}
+use Rattle.rules.specs.Accepted.{Room}
 use Rattle.rules.specs.Picture.{area}
 use Rattle.rules.specs.Border.{resolved, entry_at, sample_at}
 use Rattle.rules.specs.Sums.{plus_zero, to_byte}
-use Rattle.rules.specs.Filters.{of_bytes, of_floats, sampler, row_kernel, horizontal_at, vertical_at, separable_at}
+use Rattle.rules.specs.Filters.{of_bytes, of_floats, sampler, row_kernel, column_kernel, horizontal_at, vertical_at, separable_at}
 use Rattle.rules.specs.Refusals.{first, kernel_rows, separable_rows}
 use Rattle.rules.specs.Calls.{painted, separated}
 use Rattle.rules.specs.declared.Size.{Size}
@@ -24,36 +25,42 @@ use Rattle.rules.proofs.Rows.{off, side_off, input_off, count_off, match_off, ro
 use Rattle.rules.proofs.Grid.{column_in, row_below, row_in_lem}
 use Rattle.rules.proofs.Border.{Within, resolved_within}
 use Rattle.scratch.specs.Cleared.{cleared_to}
-use Rattle.filters.specs.Blocks.{BytePass, FloatPass}
+use Rattle.filters.specs.Blocks.{Kernelled}
 
 -- ---- what a table grants
 
-pub kernel_pass : {d : Size} {k : Kernel} {pixels : List ℕ} {weights : List Float} {out : List ℕ} → first (kernel_rows d k pixels weights out) ≡ 0
-    → BytePass d k pixels weights out
-kernel_pass {d} {k} {pixels} {weights} {out} e =
+-- a kernel: one pass
+pub record Single (d : Size) (k : Kernel) (pixels : List ℕ) (weights : List Float) (out : List ℕ) : Type 0 where
+  pub pass : Kernelled d k pixels weights
+  pub room : Room d out
+
+pub single : {d : Size} {k : Kernel} {pixels : List ℕ} {weights : List Float} {out : List ℕ} → first (kernel_rows d k pixels weights out) ≡ 0
+    → Single d k pixels weights out
+single {d} {k} {pixels} {weights} {out} e =
     let p = off (kernel_rows d k pixels weights out) tt e in
     let q = p.1.1 in
-    let s = side_off d p.0 in
     let w = count_off max_kernel k.width q.0 in
     let h = count_off max_kernel k.height q.1.0 in
     record {
-      whole = record { width_fits = s.width; height_fits = s.height; room = room_off d out q.1.1.1.1.0 };
-      source = record {
-        long = input_off d pixels p.1.0;
+      pass = record {
+        sides = side_off d p.0;
+        long = omega (arith, input_off d pixels p.1.0);
         kernel_wide = w.some;
         kernel_high = h.some;
         kernel_width = omega (arith, w.few);
         kernel_height = omega (arith, h.few);
         count = match_off (k.width * k.height) weights q.1.1.0;
       };
+      room = room_off d out q.1.1.1.1.0;
     }
 
 -- taps: the two passes, the second over what the first leaves in `work`
 pub record Taps (d : Size) (k : SeparableKernel) (pixels : List ℕ) (horizontal vertical work : List Float) (out : List ℕ) : Type 0 where
   pub across : length horizontal ≡ k.horizontal
   pub down : length vertical ≡ k.vertical
-  pub row_pass : BytePass d (row_kernel (length horizontal)) pixels horizontal work
-  pub column_pass : FloatPass d work vertical out
+  pub row_pass : Kernelled d (row_kernel (length horizontal)) pixels horizontal
+  pub column_pass : Kernelled d (column_kernel (length vertical)) work vertical
+  pub room : Room d out
 
 pub taps : {d : Size} {k : SeparableKernel} {pixels : List ℕ} {horizontal vertical work : List Float} {out : List ℕ}
     → first (separable_rows d k pixels horizontal vertical work out) ≡ 0 → Taps d k pixels horizontal vertical work out
@@ -66,25 +73,41 @@ taps {d} {k} {pixels} {horizontal} {vertical} {work} {out} e =
     let v = count_off max_taps k.vertical q.1.0 in
     let across = match_off k.horizontal horizontal r.0 in
     let down = match_off k.vertical vertical r.1.0 in
-    let room = room_off d work r.1.1.1.1.0 in
     record {
       across = across;
       down = down;
       row_pass = record {
-        whole = record { width_fits = s.width; height_fits = s.height; room = room };
-        source = record {
-          long = input_off d pixels p.1.0;
-          kernel_wide = omega (arith, h.some);
-          kernel_high = omega arith;
-          kernel_width = omega (arith, h.few);
-          kernel_height = omega arith;
-          count = sym (mul-one (length horizontal));
-        };
+        sides = s;
+        long = omega (arith, input_off d pixels p.1.0);
+        kernel_wide = omega (arith, h.some);
+        kernel_high = omega arith;
+        kernel_width = omega (arith, h.few);
+        kernel_height = omega arith;
+        count = sym (mul-one (length horizontal));
       };
       column_pass = record {
-        whole = record { width_fits = s.width; height_fits = s.height; room = room_off d out r.1.1.1.1.1.0 };
-        source = record { long = room; few = omega (arith, v.few) };
+        sides = s;
+        long = room_off d work r.1.1.1.1.0;
+        kernel_wide = omega arith;
+        kernel_high = omega (arith, v.some);
+        kernel_width = omega arith;
+        kernel_height = omega (arith, v.few);
+        count = sym (one-mul (length vertical));
       };
+      room = room_off d out r.1.1.1.1.1.0;
+    }
+
+-- a picture of f32 that has been written over is as long as it was
+pub still_kernelled : {A : Type 0} {d : Size} {k : Kernel} {l m : List A} {weights : List Float} → Kernelled d k l weights → length m ≡ length l → Kernelled d k m weights
+still_kernelled K e =
+    record {
+      sides = K.sides;
+      long = omega (arith, K.long);
+      kernel_wide = K.kernel_wide;
+      kernel_high = K.kernel_high;
+      kernel_width = K.kernel_width;
+      kernel_height = K.kernel_height;
+      count = K.count;
     }
 
 -- ---- samples look at the picture's own entries only
@@ -119,4 +142,4 @@ both_passes {d} {k} {pixels} {horizontal} {vertical} {work} {mid} {work'} {out} 
     rw (sampler_same d (of_floats mid) _ (λ i l. filled_at (area d) _ work mid nan i m l) mode w h, t.down, t.across)))
   where
     room : area d ≤ length mid
-    room = let h = t.row_pass.whole.room in omega (arith, ap length m ∙ length_filled (area d) _ work h)
+    room = let h = t.column_pass.long in omega (arith, ap length m ∙ length_filled (area d) _ work h)

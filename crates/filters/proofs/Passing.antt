@@ -1,77 +1,66 @@
--- A pass goes through the picture in runs that end with their row at the latest: where a run lies, and what stands in it. Assumes nothing.
-use mathlib.Core.Path.{◌≡◌, refl, ap, ◌∙◌}
+-- A picture that is written row by row, and a row that is written block by block. Assumes nothing.
+use mathlib.Core.Path.{◌≡◌, ap, ◌∙◌}
 use mathlib.Core.List.{List}
-use Prim.Native.Nat.{ℕ, ◌+◌, ◌-◌, ◌*◌, ◌/◌, ◌%◌, ◌<◌, ◌≤◌}
-use native.Mathlib.Nat.{mul-le-mul}
+use Prim.Native.Nat.{ℕ, ◌+◌, ◌-◌, ◌*◌, ◌/◌, ◌%◌, ◌<◌, ◌≤◌, min}
+use native.Mathlib.Nat.{zero-add, zero-mul, one-mul, add-mul, mul_comm, mul-le-mul_right}
 use native.Mathlib.Omega.{arith}
-use lib.ListN.{length, get_or, take, drop}
+use lib.ListN.{length, get_or, length-take, length-drop}
 use lib.Ieee.{Float, nan}
 use borrow.Rule.Slice.PartMut.{put_mid, mid_of}
-use Rattle.rules.specs.Limits.{max_side}
 use Rattle.rules.specs.Picture.{area, by_pixel, filled}
 use Rattle.rules.specs.Sums.{to_byte}
 use Rattle.rules.specs.declared.Size.{Size}
-use Rattle.rules.specs.declared.Kernel.{Kernel}
-use Rattle.rules.proofs.Fill.{Filling, filling_part, filled_at}
-use Rattle.rules.proofs.Grid.{row_in_lem, column_in, row_below, pixel_of, column_of_lem, row_of_lem, part_length}
-use Rattle.filters.specs.Blocks.{Block, ByteBlock, FloatBlock, Whole, BytePass, FloatPass}
+use Rattle.rules.proofs.Fill.{Filling, filling_start, filling_part, filling_end, fill_start, fill_whole, mid_unread, filled_at}
+use Rattle.rules.proofs.Grid.{row_in_lem, column_of_lem, row_of_lem}
 
--- where the run from `at` on begins
-pub record RunAt (d : Size) (at : ℕ) : Type 0 where
-  pub within : at < area d
-  pub column : at % d.width < d.width
-  pub row : at / d.width < d.height
-  pub small : area d ≤ max_side * max_side
+-- a part that is written whole, by the count of its entries
+whole_part : {A : Type 0} (a k : ℕ) (g : ℕ → A) (l part : List A) → a + k ≤ length l → let m = mid_of a (a + k - a) l in part ≡ filled (length m) g m → part ≡ filled k g m
+whole_part a k g l part h p = let e : length (mid_of a (a + k - a) l) ≡ k = simp (length-take, length-drop) (omega arith) in rw e at p
 
-pub run_at : {A : Type 0} {d : Size} {out : List A} {at : ℕ} → Whole d out → at < area d → RunAt d at
-run_at {d = d} {at = at} w l = record { within = l; column = column_in d at l; row = row_below d at l; small = mul-le-mul w.width_fits w.height_fits }
+-- ---- y rows of a picture are written
 
--- a run of n pixels of one row
-pub record Run (d : Size) (at n : ℕ) : Type 0 where
-  pub start : RunAt d at
-  pub fits : at % d.width + n ≤ d.width
-  pub ends : at + n ≤ area d
+pub rows_start : {A : Type 0} (d : Size) (f : ℕ → ℕ → A) (o : List A) → Filling (area d) (0 * d.width) (by_pixel d f) o o
+rows_start d f o = rw zero-mul filling_start
 
-pub run_of : {d : Size} {at n : ℕ} → RunAt d at → n ≤ d.width - at % d.width → Run d at n
-run_of {d} {at} r h =
-    let c = r.column in
-    record { start = r; fits = omega arith; ends = omega (arith, pixel_of d at r.within, row_in_lem (at / d.width) d.width d.height r.row) }
+module _ {A : Type 0} (d : Size) (f : ℕ → ℕ → A) {y : ℕ} {o l : List A} (p : Filling (area d) (y * d.width) (by_pixel d f) o l) where
+  pub rows_more : {g : ℕ → A} {part : List A} → area d ≤ length o → y < d.height → ((x : ℕ) → g x ≡ f x y)
+      → part ≡ filled d.width g (mid_of (y * d.width) (y * d.width + d.width - y * d.width) l)
+      → Filling (area d) ((y + 1) * d.width) (by_pixel d f) o (put_mid (y * d.width) (y * d.width + d.width - y * d.width) l part)
+  rows_more room h e q =
+      rw (add-mul, one-mul)
+      (filling_part room (row_in_lem y d.width d.height h) p q (λ x m. rw (column_of_lem y m, row_of_lem y m) (e x)))
 
-module _ {d : Size} {at n : ℕ} (r : Run d at n) where
-  -- pixel i of the run is in the same row
-  run_pixel : {A : Type 0} (f : ℕ → ℕ → A) (i : ℕ) → i < n → f (at % d.width + i) (at / d.width) ≡ by_pixel d f (at + i)
-  run_pixel f i h =
-      let k : at % d.width + i < d.width = omega (arith, r.fits) in
-      let e : at + i ≡ at / d.width * d.width + (at % d.width + i) = omega (arith, pixel_of d at r.start.within) in
-      rw (e, column_of_lem (at / d.width) k, row_of_lem (at / d.width) k)
+  -- the same of a row that is lent, and written whole
+  pub rows_lent : {g : ℕ → A} {part : List A} → area d ≤ length o → y < d.height → ((x : ℕ) → g x ≡ f x y)
+      → let m = mid_of (y * d.width) (y * d.width + d.width - y * d.width) l in part ≡ filled (length m) g m
+      → Filling (area d) ((y + 1) * d.width) (by_pixel d f) o (put_mid (y * d.width) (y * d.width + d.width - y * d.width) l part)
+  rows_lent room h e q =
+      rows_more room h e (whole_part (y * d.width) d.width _ l _ (omega (arith, p.same, row_in_lem y d.width d.height h)) q)
 
-  module _ {A : Type 0} {o l : List A} (room : area d ≤ length o) where
-    -- the run's own place in the output
-    pub run_room : {f : ℕ → A} → Filling (area d) at f o l → n ≤ length (take (at + n - at) (drop at l))
-    run_room p = omega (arith, part_length l at (at + n) n refl (omega (arith, r.ends, p.same)))
+  pub rows_end : d.height ≤ y → l ≡ filled (area d) (by_pixel d f) o
+  rows_end h = filling_end p (omega (arith, mul-le-mul_right d.width h, mul_comm d.width d.height))
 
-    -- a run written straight into the output
-    pub run_more : (f : ℕ → ℕ → A) {part : List A} → Filling (area d) at (by_pixel d f) o l
-        → part ≡ filled n (λ i. f (at % d.width + i) (at / d.width)) (mid_of at (at + n - at) l)
-        → Filling (area d) (at + n) (by_pixel d f) o (put_mid at (at + n - at) l part)
-    run_more f p q = filling_part room r.ends p q (run_pixel f)
+-- ---- k blocks of a row of w bytes are written, each from sums that stand in a short buffer
 
-  -- a run of sums, turned to bytes
-  pub byte_run : {o l part : List ℕ} → area d ≤ length o → (f : ℕ → ℕ → Float) (s : List Float) {sums : List Float}
-      → Filling (area d) at (by_pixel d (λ x y. to_byte (f x y))) o l
-      → sums ≡ filled n (λ i. f (at % d.width + i) (at / d.width)) s → part ≡ filled n (λ i. to_byte (get_or sums i nan)) (mid_of at (at + n - at) l)
-      → Filling (area d) (at + n) (by_pixel d (λ x y. to_byte (f x y))) o (put_mid at (at + n - at) l part)
-  byte_run room f s {sums} p q t = filling_part room r.ends p t (λ i m. ap to_byte (filled_at n _ s sums nan i q m ∙ run_pixel f i m))
+pub blocks_start : {A : Type 0} (w : ℕ) (f : ℕ → A) (o : List A) → Filling w (min 0 w) f o o
+blocks_start w f o = let z : min 0 w ≡ 0 = omega arith in rw z filling_start
 
-  -- ---- what the sums of a run ask
+-- the next one begins in the row
+pub block_in : {w k c : ℕ} → c ≡ w / 128 + min 1 (w % 128) → k < c → k * 128 < w
+block_in e l = omega arith
 
-  block : {A : Type 0} {out : List A} {sums : List Float} → Whole d out → n ≤ length sums → Block d (at % d.width) (at / d.width) n sums
-  block w h = record { row = r.start.row; columns = r.fits; width_fits = w.width_fits; height_fits = w.height_fits; room = h }
-
-  pub byte_block : {A : Type 0} {k : Kernel} {pixels : List ℕ} {weights : List Float} {out : List A} {sums : List Float}
-      → BytePass d k pixels weights out → n ≤ length sums → ByteBlock d k pixels weights (at % d.width) (at / d.width) n sums
-  byte_block p h = record { block = block p.whole h; wide = omega (arith, r.start.column); source = p.source }
-
-  pub float_block : {entries taps : List Float} {out : List ℕ} {sums : List Float} → FloatPass d entries taps out → n ≤ length sums
-      → FloatBlock d entries taps (at % d.width) (at / d.width) n sums
-  float_block p h = record { block = block p.whole h; source = p.source }
+pub blocks_more : {w : ℕ} (k : ℕ) {n : ℕ} (f : ℕ → Float) (s : List Float) {o l part : List ℕ} {block : List Float} → w ≤ length o → k * 128 < w → n ≡ min 128 (w - k * 128) → 128 ≤ length s
+    → Filling w (min (k * 128) w) (λ x. to_byte (f x)) o l
+    → let b = mid_of 0 n s in block ≡ filled (length b) (λ i. f (k * 128 + i)) b
+    → let m = mid_of (k * 128) (k * 128 + n - k * 128) l in part ≡ filled (length m) (λ i. to_byte (get_or (mid_of 0 n (put_mid 0 n s block)) i nan)) m
+    → Filling w (min ((k + 1) * 128) w) (λ x. to_byte (f x)) o (put_mid (k * 128) (k * 128 + n - k * 128) l part)
+blocks_more {w} k {n} f s {o} {l} {part} {block} room h e z p q t =
+    let x : min (k * 128) w ≡ k * 128 = omega arith in
+    let y : min ((k + 1) * 128) w ≡ k * 128 + n = omega arith in
+    let g : ℕ → Float = λ i. f (k * 128 + i) in
+    let sums = put_mid 0 n s block in
+    let a : n - 0 ≡ n = omega arith in
+    let u : sums ≡ filled n g s = rw a at (fill_whole 0 n g g s s {part = block} (omega arith) (omega arith) (fill_start g s) (rw a q) (λ i m. rw zero-add)) in
+    let v : (i : ℕ) → i < n → get_or (mid_of 0 n sums) i nan ≡ g i =
+    λ i m. mid_unread 0 n g sums sums nan i (fill_start g sums) m ∙ rw zero-add (filled_at n g s sums nan i u m) in
+    rw y (filling_part room (omega arith) (rw x at p) (whole_part (k * 128) n _ l part (omega (arith, p.same)) t) (λ i m. ap to_byte (v i m)))

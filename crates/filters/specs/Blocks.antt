@@ -1,12 +1,12 @@
 -- Sums of neighbouring pixels, a weight at a time.
-use Rattle.std.specs.Prelude.{ℕ, ◌+◌, ◌-◌, ◌*◌, ◌<◌, ◌≤◌, ◌≡◌, List, length, get_or, pos, ◌-ℤ◌, Float}
+use Rattle.std.specs.Prelude.{ℕ, ◌+◌, ◌-◌, ◌*◌, ◌<◌, ◌≤◌, ◌≡◌, List, length, get_or, pos, ◌-ℤ◌, Float, ℤ}
 use Rattle.std.specs.Float.{nan, binary32}
 use Rattle.std.specs.Float.Ieee.{add}
-use Rattle.rules.specs.Limits.{max_side, max_taps}
-use Rattle.rules.specs.Picture.{area}
+use Rattle.rules.specs.Limits.{max_taps}
+use Rattle.rules.specs.Accepted.{Sides, Room}
 use Rattle.rules.specs.Border.{resolved}
 use Rattle.rules.specs.Sums.{plus_zero, product}
-use Rattle.rules.specs.Filters.{of_bytes}
+use Rattle.rules.specs.Filters.{sampler, kernel_sum}
 use Rattle.rules.specs.declared.Size.{Size}
 use Rattle.rules.specs.declared.Kernel.{Kernel}
 use Rattle.rules.specs.declared.BorderMode.{BorderMode}
@@ -17,15 +17,28 @@ use Rattle.rules.specs.declared.Coord.TheVariants.{At, Nothing, Refused}
 abbrev pub added : List Float → (ℕ → Float) → Float → ℕ → Float
 added o v weight i = add binary32 (get_or o i nan) (product (v i) weight)
 
+-- ---- what a picture's entries count, one definition for bytes and f32: rules/specs/Filters has its two instances, `of_bytes` and `of_floats`
+
+abbrev pub samples_of : {A : Type 0} → (A → Float) → A → List A → ℕ → Float
+samples_of value missing entries i = value (get_or entries i missing)
+
+abbrev pub sampled : {A : Type 0} → (A → Float) → A → List A → Size → BorderMode → ℤ → ℤ → Float
+sampled value missing entries d mode = sampler (samples_of value missing entries) d mode
+
+-- the sum at (x, y)
+abbrev pub sum_at : {A : Type 0} → (A → Float) → A → List A → Size → Kernel → List Float → BorderMode → ℕ → ℕ → Float
+sum_at value missing entries d k weights mode = kernel_sum (sampled value missing entries d mode) k weights
+
 -- a row's sample at a resolved coordinate
-abbrev pub read_row : List ℕ → Coord → Float
-read_row row (At i) = of_bytes row i
-read_row row Nothing = plus_zero
-read_row row Refused = plus_zero
+abbrev pub read_row : (ℕ → Float) → Coord → Float
+read_row v (At i) = v i
+read_row v Nothing = plus_zero
+read_row v Refused = plus_zero
 
 -- and at coordinate at - half
-unfoldable pub row_at : List ℕ → BorderMode → ℕ → ℕ → Float
-row_at row mode at half = read_row row (resolved mode (pos at -ℤ pos half) (length row))
+unfoldable pub row_at : {A : Type 0} → (A → Float) → A → List A → BorderMode → ℕ → ℕ → Float
+row_at value missing row mode at half =
+    read_row (samples_of value missing row) (resolved mode (pos at -ℤ pos half) (length row))
 
 -- of n coordinates from at - half on, those from lo to hi are a row's own columns, from s on
 pub record Inner (at half width n lo hi s : ℕ) : Type 0 where
@@ -34,52 +47,21 @@ pub record Inner (at half width n lo hi s : ℕ) : Type 0 where
   pub in_row : s + (hi - lo) ≤ width
   pub column : lo < hi → s + half ≡ at + lo
 
--- ---- what is read: a byte picture with a kernel, and an f32 picture with a column of taps
+-- ---- a kernel over a picture, both within their limits
 
-pub record Bytes (d : Size) (k : Kernel) (pixels : List ℕ) (weights : List Float) : Type 0 where
-  pub long : length pixels ≡ area d
+pub record Kernelled {A : Type 0} (d : Size) (k : Kernel) (entries : List A) (weights : List Float) : Type 0 where
+  pub sides : Sides d
+  pub long : Room d entries
   pub kernel_wide : 0 < k.width
   pub kernel_high : 0 < k.height
   pub kernel_width : k.width ≤ max_taps
   pub kernel_height : k.height ≤ max_taps
   pub count : length weights ≡ k.width * k.height
 
-pub record Floats (d : Size) (entries taps : List Float) : Type 0 where
-  pub long : area d ≤ length entries
-  pub few : length taps ≤ max_taps
-
--- ---- n pixels from column x of row y on, and room for their sums
-
-pub record Block (d : Size) (x y n : ℕ) (sums : List Float) : Type 0 where
+-- pixels from column x of row y on, as many as there are sums
+pub record Block (d : Size) (x y : ℕ) (sums : List Float) : Type 0 where
   pub row : y < d.height
-  pub columns : x + n ≤ d.width
-  pub width_fits : d.width ≤ max_side
-  pub height_fits : d.height ≤ max_side
-  pub room : n ≤ length sums
-
-pub record ByteBlock (d : Size) (k : Kernel) (pixels : List ℕ) (weights : List Float) (x y n : ℕ) (sums : List Float) : Type 0 where
-  pub block : Block d x y n sums
-  pub wide : 0 < d.width
-  pub source : Bytes d k pixels weights
-
-pub record FloatBlock (d : Size) (entries taps : List Float) (x y n : ℕ) (sums : List Float) : Type 0 where
-  pub block : Block d x y n sums
-  pub source : Floats d entries taps
-
--- ---- a pass over a whole picture, and room for what it writes
-
-pub record Whole {A : Type 0} (d : Size) (out : List A) : Type 0 where
-  pub width_fits : d.width ≤ max_side
-  pub height_fits : d.height ≤ max_side
-  pub room : area d ≤ length out
-
-pub record BytePass {A : Type 0} (d : Size) (k : Kernel) (pixels : List ℕ) (weights : List Float) (out : List A) : Type 0 where
-  pub whole : Whole d out
-  pub source : Bytes d k pixels weights
-
-pub record FloatPass (d : Size) (entries taps : List Float) (out : List ℕ) : Type 0 where
-  pub whole : Whole d out
-  pub source : Floats d entries taps
+  pub columns : x + length sums ≤ d.width
 
 -- how many sums are kept at a time, where they have no lent place
 abbrev pub block_length : ℕ

@@ -1,4 +1,3 @@
 -- What this crate's private functions require of their arguments.
-pub mod Lent
 pub mod Byte
 pub mod Blocks

@@ -5,7 +5,7 @@ ghost use Rattle.rules.specs.Picture.{filled};
 ghost use Rattle.rules.specs.Sums.{to_byte};
 ghost use Rattle.filters.specs.Byte.{held_of, Small, Near};
 
-// Held to 0..255; NaN gives 0.
+// Held to 0..255; NaN gives 0. By tests and not by `max` and `min`: what the Rust's library did is worked out here (01.Change.5).
 fn held(v: f32) -> f32
     ensures { result ≡ held_of v }
 {
@@ -42,14 +42,13 @@ pub(crate) fn quantize(v: f32) -> u8
     if u < half_above(n) { n } else { n + 1 }
 }
 
-// The first n sums to bytes.
-pub(crate) fn quantize_row(sums: &[f32], n: usize, out: &mut [u8])
-    requires { (n ≤ length sums.now) × (n ≤ length out.old) }
-    ensures { out.new ≡ filled n (λ i. to_byte (get_or sums.now i nan)) out.old }
+// The sums to bytes, as many.
+pub(crate) fn quantize_row(sums: &[f32], out: &mut [u8])
+    requires { length sums.now ≡ length out.old }
+    ensures { out.new
+        ≡ filled (length out.old) (λ i. to_byte (get_or sums.now i nan)) out.old }
 {
-    let mut i = 0;
-    while i < n {
+    for i in 0..out.len() {
         out[i] = quantize(sums[i]);
-        i += 1;
     }
 }

@@ -1,4 +1,4 @@
-// The filters of silvestre, one module a file of the Rust's filters/. Each public call refuses by number or runs by document 01's rules.
+// The filters of silvestre, one module a file of the Rust's filters/. Each public call refuses by a row of the table or runs by document 01's rules.
 #![tactic(auto)]
 
 pub mod box_blur;

@@ -1,53 +1,65 @@
 // Ordered f32 sums, a block of neighbouring pixels at once: each weight is added to every sum of the block before the next weight is, so
 // each pixel's own sum keeps its order (01.Border.7) and the loops run over slices in step.
-ghost use Rattle.std.specs.Prelude.{◌≡◌, ◌+◌, ◌-◌, ◌*◌, ◌≤◌, ◌<◌, length, get_or, pos, ◌-ℤ◌};
+ghost use Rattle.std.specs.Prelude.{◌≡◌, ℕ, ◌+◌, ◌-◌, ◌*◌, ◌/◌, ◌≤◌, ◌<◌, length, get_or, pos, ◌-ℤ◌, Float};
 ghost use Rattle.std.specs.Float.{nan};
 ghost use Rattle.rules.specs.Limits.{max_side, max_taps};
 ghost use Rattle.rules.specs.Picture.{filled};
 ghost use Rattle.rules.specs.Border.{resolved};
-ghost use Rattle.rules.specs.Sums.{plus_zero};
-ghost use Rattle.rules.specs.Filters.{of_bytes, of_floats, sampler, kernel_term, kernel_sum, column_kernel};
+ghost use Rattle.rules.specs.Sums.{whole_f32};
+ghost use Rattle.rules.specs.Filters.{kernel_term};
 ghost use Rattle.rules.proofs.Sums.{one_more_term};
 ghost use Rattle.rules.proofs.Sampling.{place_in};
-ghost use Rattle.filters.specs.Lent.{Row};
-ghost use Rattle.filters.specs.Blocks.{added, row_at, Inner, ByteBlock, FloatBlock};
+ghost use Rattle.filters.specs.Blocks.{added, row_at, samples_of, sampled, sum_at, Inner, Block, Kernelled};
 
 use border::coord::place;
 use rules::{BorderMode, Kernel, Size};
-use scratch::{clear_floats, least};
 
-// ---- The two entries of the Rust's `Sample`, bytes and f32; and samples that are all 0, whose products are still added.
+// The Rust's `Sample`: what a picture's entry counts in a sum. `missing` stands for an entry past the end, which is never read.
+pub(crate) trait Sample: Copy {
+    ghost value: { Self → Float };
 
-fn add_bytes(sums: &mut [f32], samples: &[u8], n: usize, weight: f32)
-    requires { (n ≤ length sums.old) × (n ≤ length samples.now) }
-    ensures { sums.new ≡ filled n (added sums.old (of_bytes samples.now) weight) sums.old }
-{
-    let mut i = 0;
-    while i < n {
-        sums[i] = sums[i] + samples[i] as f32 * weight;
-        i += 1;
+    ghost missing: { Self };
+
+    fn sample(self) -> f32
+        ensures { result ≡ value self };
+}
+
+impl Sample for u8 {
+    ghost value = { λ b. whole_f32 (pos b) };
+
+    ghost missing = { 0 };
+
+    fn sample(self) -> f32 {
+        self as f32
     }
 }
 
-fn add_floats(sums: &mut [f32], samples: &[f32], n: usize, weight: f32)
-    requires { (n ≤ length sums.old) × (n ≤ length samples.now) }
-    ensures { sums.new ≡ filled n (added sums.old (of_floats samples.now) weight) sums.old }
-{
-    let mut i = 0;
-    while i < n {
-        sums[i] = sums[i] + samples[i] * weight;
-        i += 1;
+impl Sample for f32 {
+    ghost value = { λ v. v };
+
+    ghost missing = { nan };
+
+    fn sample(self) -> f32 {
+        self
     }
 }
 
-fn add_zeros(sums: &mut [f32], n: usize, weight: f32)
-    requires { n ≤ length sums.old }
-    ensures { sums.new ≡ filled n (added sums.old (λ i. plus_zero) weight) sums.old }
+fn sample_at<T: Sample>(samples: &[T], i: usize) -> f32
+    requires { i < length samples.now }
+    ensures { result ≡ samples_of T.value T.missing samples.now i }
 {
-    let mut i = 0;
-    while i < n {
-        sums[i] = sums[i] + 0.0 * weight;
-        i += 1;
+    samples[i].sample()
+}
+
+// One weight over each sum, with the sum's own sample.
+fn add_each<F: Fn(usize) -> f32>(sums: &mut [f32], weight: f32, sample: F)
+    requires { (i : ℕ) → i < length sums.old → F.pre sample i }
+    ensures { (v : ℕ → Float)
+        → ((i : ℕ) (s : Float) → i < length sums.old → F.post sample i s → s ≡ v i)
+        → sums.new ≡ filled (length sums.old) (added sums.old v weight) sums.old }
+{
+    for (i, sum) in sums.iter_mut().enumerate() {
+        *sum = *sum + sample(i) * weight;
     }
 }
 
@@ -62,45 +74,22 @@ fn place_about(at: usize, half: usize, side: usize, border: BorderMode) -> usize
 }
 
 // The sample of a row at coordinate at - half.
-fn edge(row: &[u8], at: usize, half: usize, border: BorderMode) -> f32
-    requires { Row row.now × (at < 2 * max_side) × (half ≤ max_taps) }
-    ensures { result ≡ row_at row.now border at half }
+fn edge<T: Sample>(row: &[T], at: usize, half: usize, border: BorderMode) -> f32
+    requires { (0 < length row.now)
+        × (length row.now ≤ max_side)
+        × (at < 2 * max_side)
+        × (half ≤ max_taps) }
+    ensures { result ≡ row_at T.value T.missing row.now border at half }
 {
     let i = place_about(at, half, row.len(), border);
     if i < row.len() {
-        return row[i] as f32;
+        return sample_at(row, i);
     }
     0.0
 }
 
-fn add_edges(
-    sums: &mut [f32],
-    row: &[u8],
-    at: usize,
-    half: usize,
-    n: usize,
-    weight: f32,
-    border: BorderMode,
-)
-    requires { Row row.now × (n ≤ length sums.old) × (at + n ≤ 2 * max_side) × (half ≤ max_taps) }
-    ensures { sums.new
-        ≡ filled n (added sums.old (λ i. row_at row.now border (at + i) half) weight) sums.old }
-{
-    let mut i = 0;
-    while i < n {
-        sums[i] = sums[i] + edge(row, at + i, half, border) * weight;
-        i += 1;
-    }
-}
-
-fn less(a: usize, b: usize) -> usize
-    ensures { result ≡ a - b }
-{
-    if b < a { a - b } else { 0 }
-}
-
 // Where a row's own coordinates lie among n in a row: from lo to hi, and lo is column s.
-#[derive(Drop)]
+#[derive(Clone, Copy)]
 struct Cut {
     lo: usize,
     hi: usize,
@@ -111,164 +100,94 @@ fn inner_part(at: usize, half: usize, width: usize, n: usize) -> Cut
     requires { (width ≤ max_side) × (at + n ≤ 2 * max_side) × (half ≤ max_taps) }
     ensures { Inner at half width n result.lo result.hi result.s }
 {
-    let lo = least(less(half, at), n);
-    let end = least(less(half + width, at), n);
+    let lo = half.saturating_sub(at).min(n);
+    let end = (half + width).saturating_sub(at).min(n);
     Cut {
         lo,
-        hi: lo + less(end, lo),
-        s: least(less(at + lo, half), width),
+        hi: end.max(lo),
+        s: (at + lo).saturating_sub(half).min(width),
     }
 }
 
-// One weight over the coordinates at - half, .., at + n - 1 - half of a row: those before the row, in it, and after it.
-fn add_row(
-    sums: &mut [f32],
-    row: &[u8],
-    at: usize,
-    half: usize,
-    n: usize,
-    weight: f32,
-    border: BorderMode,
-)
-    requires { Row row.now × (n ≤ length sums.old) × (at + n ≤ 2 * max_side) × (half ≤ max_taps) }
-    ensures { sums.new
-        ≡ filled n (added sums.old (λ i. row_at row.now border (at + i) half) weight) sums.old }
-{
-    let c = inner_part(at, half, row.len(), n);
-    let lo = c.lo;
-    let hi = c.hi;
-    let s = c.s;
-    let e = s + (hi - lo);
-    add_edges(&mut sums[0..lo], row, at, half, lo, weight, border);
-    add_bytes(&mut sums[lo..hi], &row[s..e], hi - lo, weight);
-    add_edges(&mut sums[hi..n], row, at + hi, half, n - hi, weight, border);
+// ---- A kernel over a picture, of bytes or of f32.
+
+#[derive(Drop)]
+pub(crate) struct Convolution<'a, T> {
+    pub(crate) samples: &'a [T],
+    pub(crate) size: Size,
+    pub(crate) kernel: Kernel,
+    pub(crate) weights: &'a [f32],
+    pub(crate) border: BorderMode,
+    ghost within: { Kernelled size kernel samples.now weights.now },
 }
 
-// ---- Blocks: the sums of n pixels from column x of row y on.
-
-// The weight of place j of the flipped kernel.
-fn flipped_weight(weights: &[f32], j: usize) -> f32
-    requires { j < length weights.now }
-    ensures { result ≡ get_or weights.now (length weights.now - 1 - j) nan }
-{
-    let i = weights.len() - 1 - j;
-    weights[i]
-}
-
-// Place j of the kernel, over bytes.
-fn add_byte_term(
-    pixels: &[u8],
-    size: Size,
-    kernel: Kernel,
-    weights: &[f32],
-    border: BorderMode,
-    x: usize,
-    y: usize,
-    n: usize,
-    j: usize,
-    sums: &mut [f32],
-)
-    requires { ByteBlock size kernel pixels.now weights.now x y n sums.old × (j < length weights.now) }
-    ensures { sums.new
-        ≡ filled n
-        (one_more_term sums.old
-        (λ i. kernel_term (sampler (of_bytes pixels.now) size border) kernel weights.now (x + i) y) j)
-        sums.old }
-{
-    let weight = flipped_weight(weights, j);
-    let r = place_about(y + j / kernel.width, kernel.height / 2, size.height, border);
-    if r < size.height {
-        let a = r * size.width;
-        let e = a + size.width;
-        add_row(
-            sums,
-            &pixels[a..e],
-            x + j % kernel.width,
-            kernel.width / 2,
-            n,
+impl<T: Sample> Convolution<'_, T> {
+    // One weight over a sum for each coordinate of a row from at - half on: those before the row, in it, and after it.
+    fn add_row(&self, row: &[T], at: usize, weight: f32, sums: &mut [f32])
+        requires { (length sums.old ≤ length row.now)
+            × (length row.now ≤ max_side)
+            × (at + length sums.old ≤ 2 * max_side) }
+        ensures { sums.new
+            ≡ filled (length sums.old)
+            (added sums.old
+            (λ i. row_at T.value T.missing row.now self.now.border (at + i) (self.now.kernel.width / 2))
+            weight)
+            sums.old }
+    {
+        let border = self.border;
+        let half = self.kernel.width / 2;
+        let Cut { lo, hi, s } = inner_part(at, half, row.len(), sums.len());
+        let e = s + (hi - lo);
+        let inner = &row[s..e];
+        add_each(&mut sums[..lo], weight, |i| edge(row, at + i, half, border));
+        add_each(&mut sums[lo..hi], weight, |i| sample_at(inner, i));
+        add_each(
+            &mut sums[hi..],
             weight,
-            border,
+            |i| edge(row, at + hi + i, half, border),
         );
-        return;
     }
-    add_zeros(sums, n, weight);
-}
 
-pub(crate) fn byte_sums(
-    pixels: &[u8],
-    size: Size,
-    kernel: Kernel,
-    weights: &[f32],
-    border: BorderMode,
-    x: usize,
-    y: usize,
-    n: usize,
-    sums: &mut [f32],
-)
-    requires { ByteBlock size kernel pixels.now weights.now x y n sums.old }
-    ensures { sums.new
-        ≡ filled n (λ i. kernel_sum (sampler (of_bytes pixels.now) size border) kernel weights.now (x + i) y) sums.old }
-{
-    clear_floats(sums, n);
-    let mut j = 0;
-    while j < weights.len() {
-        add_byte_term(pixels, size, kernel, weights, border, x, y, n, j, sums);
-        j += 1;
+    // Place j of the flipped kernel, over a pixel for each sum, from column x of row y on.
+    fn add_term(&self, x: usize, y: usize, j: usize, sums: &mut [f32])
+        requires { Block self.now.size x y sums.old × (j < length self.now.weights.now) }
+        ensures { sums.new
+            ≡ filled (length sums.old)
+            (one_more_term sums.old
+            (λ i. kernel_term (sampled T.value T.missing self.now.samples.now self.now.size self.now.border) self.now.kernel self.now.weights.now (x + i) y)
+            j)
+            sums.old }
+    {
+        let width = self.size.width;
+        let weight = self.weights[self.weights.len() - 1 - j];
+        let half = self.kernel.height / 2;
+        let r = place_about(
+            y + j / self.kernel.width,
+            half,
+            self.size.height,
+            self.border,
+        );
+        if r < self.size.height {
+            let a = r * width;
+            let e = a + width;
+            let at = x + j % self.kernel.width;
+            self.add_row(&self.samples[a..e], at, weight, sums);
+            return;
+        }
+        add_each(sums, weight, |_| 0.0);
     }
-}
 
-// Tap k of a column, over f32.
-fn add_float_term(
-    entries: &[f32],
-    size: Size,
-    taps: &[f32],
-    border: BorderMode,
-    x: usize,
-    y: usize,
-    n: usize,
-    k: usize,
-    sums: &mut [f32],
-)
-    requires { FloatBlock size entries.now taps.now x y n sums.old × (k < length taps.now) }
-    ensures { sums.new
-        ≡ filled n
-        (one_more_term sums.old
-        (λ i. kernel_term (sampler (of_floats entries.now) size border) (column_kernel (length taps.now)) taps.now (x + i) y)
-        k)
-        sums.old }
-{
-    let weight = flipped_weight(taps, k);
-    let r = place_about(y + k, taps.len() / 2, size.height, border);
-    if r < size.height {
-        let a = r * size.width + x;
-        let e = a + n;
-        add_floats(sums, &entries[a..e], n, weight);
-        return;
-    }
-    add_zeros(sums, n, weight);
-}
-
-pub(crate) fn float_sums(
-    entries: &[f32],
-    size: Size,
-    taps: &[f32],
-    border: BorderMode,
-    x: usize,
-    y: usize,
-    n: usize,
-    sums: &mut [f32],
-)
-    requires { FloatBlock size entries.now taps.now x y n sums.old }
-    ensures { sums.new
-        ≡ filled n
-        (λ i. kernel_sum (sampler (of_floats entries.now) size border) (column_kernel (length taps.now)) taps.now
-        (x + i) y)
-        sums.old }
-{
-    clear_floats(sums, n);
-    let mut k = 0;
-    while k < taps.len() {
-        add_float_term(entries, size, taps, border, x, y, n, k, sums);
-        k += 1;
+    // A sum for each pixel from column x of row y on.
+    pub(crate) fn block_sums(&self, x: usize, y: usize, sums: &mut [f32])
+        requires { Block self.now.size x y sums.old }
+        ensures { sums.new
+            ≡ filled (length sums.old)
+            (λ i. sum_at T.value T.missing self.now.samples.now self.now.size self.now.kernel self.now.weights.now self.now.border (x + i) y)
+            sums.old }
+    {
+        sums.fill(0.0);
+        for j in 0..self.weights.len() {
+            self.add_term(x, y, j, sums);
+        }
     }
 }

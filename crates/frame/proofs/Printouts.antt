@@ -15,11 +15,14 @@ use Rattle.rules.specs.Refusals.{first, count_row}
 use Rattle.rules.specs.Frame.{breach, frame_size, tap_count, pixel_offset, header_length, word_at, frame_taps, frame_pixels, thresholds_of}
 use Rattle.rules.specs.Frame.{edges_text, rows_text, refused_text, run_text, printout, placed}
 use Rattle.rules.specs.declared.Size.{Size}
-use Rattle.rules.specs.declared.Counted.{Counted}
+use Rattle.rules.specs.Answers.{Counted, run_answer, number_of}
 use Rattle.rules.proofs.Fill.{length_tabulate, take_filled}
 use Rattle.rules.proofs.Rows.{input_fits}
+use Rattle.rules.proofs.Answers.{named}
 use Rattle.frame.specs.Room.{Small}
-use Rattle.frame.specs.Running.{ran}
+use Rattle.frame.specs.Running.{ran, Edges}
+use Rattle.std.specs.Prelude.{Result, Ok, Err, MatchResult}
+use Rattle.rules.specs.declared.refusal.Refusal.{Refusal}
 use Rattle.frame.proofs.Breaches.{Laid}
 use Rattle.rules.proofs.Runs.{front}
 use Rattle.frame.proofs.Runs.{outcome, ran_is, text_of, text_same, count_few}
@@ -98,6 +101,14 @@ module _ (file : List ℕ) where
     small_run l =
         let q = ap (λ (x : Counted × List ℕ). x.0.count) (e ∙ run_is out h) in
         record { wide = l.width; high = l.height; few = omega (arith, q, count_few d (frame_pixels file) (frame_taps file) (thresholds_of file) out, l.small) }
+
+-- a run that was made of a file, by its answer
+pub ended : (file out : List ℕ) {m : List ℕ} (answer : Result ℕ Refusal) → breach file ≡ false → Laid file → area (frame_size file) ≤ length out → length m ≡ length out
+    → (run_answer answer, m) ≡ ran (frame_size file) (frame_pixels file) (frame_taps file) (thresholds_of file) out
+    → MatchResult answer (Edges file m) (λ refusal. printout file ≡ refused_text (number_of refusal))
+ended file out (Ok count) k l h s e =
+    record { header = l.header; small = small_run file out h e l; whole = omega (arith, h, s); is = kept file k ∙ run_accepted file out h e refl }
+ended file out (Err refusal) k l h s e = kept file k ∙ run_refused file out h e (named refusal)
 
 -- ---- the values that a file holds, as they are lent to the run
 

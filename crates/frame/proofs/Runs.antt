@@ -17,7 +17,7 @@ use Rattle.rules.specs.Run.{canny, run_edges, count_of, Roomy}
 use Rattle.rules.specs.Frame.{fresh_scratch, pixel_text, newline, edges_text, rows_text, refused_text}
 use Rattle.rules.specs.declared.Size.{Size}
 use Rattle.rules.specs.declared.Thresholds.{Thresholds}
-use Rattle.rules.specs.declared.Counted.{Counted}
+use Rattle.rules.specs.Answers.{Counted}
 use Rattle.rules.proofs.Fill.{length_tabulate, tabulate_cong, filled_at}
 use Rattle.rules.proofs.Grid.{pixel_in}
 use Rattle.rules.proofs.Runs.{front, roomy}

@@ -4,11 +4,10 @@ use mathlib.Core.Bool.{Bool, true, false, cond}
 use mathlib.Core.List.{List, [], ◌∷◌, ◌++◌, append_assoc, append-nil}
 use Prim.Native.Nat.{ℕ, suc, ◌+◌, ◌-◌, ◌*◌, ◌/◌, ◌%◌, ◌<◌, ◌≤◌}
 use native.Mathlib.Nat.{zero-add, add-mul, mul_comm, mul-le-mul}
-use native.Mathlib.Numerals.{add-one}
 use native.Mathlib.Omega.{arith}
 use lib.Dec.{ltb}
 use lib.ListN.{length, get_or, take, drop, set, length-append, length-take, length-drop, drop_of_length-le}
-use lib.Seq.{sets, sets-eq, length-sets, take-suc, drop-drop}
+use lib.Seq.{sets, sets-eq, drop-drop}
 use borrow.Author.Tests.{ltb-true}
 use borrow.Rule.Slice.PartMut.{put_mid, mid_of}
 use Rattle.rules.specs.Picture.{tabulate, filled}
@@ -29,9 +28,6 @@ pub record Put (o : List ℕ) (i : ℕ) (a : List ℕ) (e : ℕ) (l : List ℕ) 
   pub place : e ≡ i + length a
   pub is : l ≡ sets o i a
 
-pub put_length : {o a l : List ℕ} {i e : ℕ} → Put o i a e l → length l ≡ length o
-put_length {o} {a} {i = i} p = ap length p.is ∙ length-sets o i a
-
 -- b behind them
 then : {o a b l r : List ℕ} {i e f : ℕ} → Put o i a e l → Put l e b f r → Put o i (a ++ b) f r
 then {o} {a} {b} {i = i} p q =
@@ -50,14 +46,6 @@ only_digit {n} o i h = rw (one_digit n h) (record { place = refl; is = refl })
 
 pub last_digit : {n : ℕ} {o l : List ℕ} {i e : ℕ} → 10 ≤ n → Put o i (decimal (n / 10)) e l → Put o i (decimal n) (e + 1) (set l e (48 + n % 10))
 last_digit {n} h p = rw (more_digits n h) (then_byte (48 + n % 10) p)
-
--- one more of a word that is copied
-pub copy_more : {o l : List ℕ} (word : List ℕ) {at : ℕ} (i : ℕ) → i < length word → Put o at (take i word) (at + i) l
-    → Put o at (take (i + 1) word) (at + (i + 1)) (set l (at + i) (get_or word i 0))
-copy_more word {at} i h p =
-    let e : at + (i + 1) ≡ at + i + 1 = omega arith in
-    let t : take (i + 1) word ≡ take i word ++ (get_or word i 0 ∷ []) = rw add-one (take-suc word i 0 h) in
-    rw (e, t) (then_byte (get_or word i 0) p)
 
 -- from the start: the bytes, then what was behind them
 from_start : (p o : List ℕ) → length p ≤ length o → sets o 0 p ≡ p ++ drop (length p) o

@@ -1,13 +1,14 @@
 -- What one run over scratch of its own answers and leaves, and what the functions that make it require.
-use Rattle.std.specs.Prelude.{ℕ, ◌*◌, ◌≤◌, ◌≡◌, false, List, length, Float}
+use Rattle.std.specs.Prelude.{ℕ, ◌*◌, ◌≤◌, ◌≡◌, false, List, ◌++◌, length, Float}
 use Rattle.rules.specs.Limits.{max_taps, max_frame_side}
 use Rattle.rules.specs.Picture.{area}
 use Rattle.rules.specs.Refusals.{Scratch}
 use Rattle.rules.specs.Run.{canny}
-use Rattle.rules.specs.Frame.{breach, tap_count, fresh_scratch}
+use Rattle.rules.specs.Frame.{breach, tap_count, fresh_scratch, header_length, frame_size, edges_text, rows_text, printout}
+use Rattle.frame.specs.Room.{Small}
 use Rattle.rules.specs.declared.Size.{Size}
 use Rattle.rules.specs.declared.Thresholds.{Thresholds}
-use Rattle.rules.specs.declared.Counted.{Counted}
+use Rattle.rules.specs.Answers.{Counted}
 
 -- the answer and the map, without the scratch
 abbrev pub shown : Counted × (List ℕ × Scratch) → Counted × List ℕ
@@ -30,3 +31,10 @@ pub record Framed (file : List ℕ) (count : ℕ) (map : List ℕ) : Type 0 wher
   pub counted : count ≡ tap_count file
   pub few : count ≤ max_taps
   pub room : max_frame_area ≤ length map
+
+-- a file that is printed as edges, with their map and their count
+pub record Edges (file map : List ℕ) (count : ℕ) : Type 0 where
+  pub header : header_length ≤ length file
+  pub small : Small (frame_size file) count
+  pub whole : area (frame_size file) ≤ length map
+  pub is : printout file ≡ edges_text (frame_size file) count ++ rows_text (frame_size file) map

@@ -32,11 +32,10 @@ pub(crate) fn word(file: &[u8], at: usize) -> u32
     requires { at + 4 ≤ length file.now }
     ensures { result ≡ frame.word_at file.now at }
 {
-    file[at] as u32
-        + 256 * (file[at + 1] as u32 + 256 * (file[at + 2] as u32 + 256 * (file[at + 3] as u32)))
+    u32::from_le_bytes([file[at], file[at + 1], file[at + 2], file[at + 3]])
 }
 
-// A word as a number of 64 bits: no sum or product of the layout's tests can wrap.
+// A word as a number of 64 bits: no sum or product of the layout's tests can wrap. A function, since its bound is what the tests rest on.
 pub(crate) fn wide(file: &[u8], at: usize) -> usize
     requires { at + 4 ≤ length file.now }
     ensures { (result ≡ frame.word_at file.now at) × (result < 4294967296) }
@@ -73,10 +72,8 @@ pub(crate) fn decode_taps(file: &[u8], count: usize, taps: &mut [f32])
     ensures { taps.new
         ≡ filled count (λ k. of_bits binary32 (frame.word_at file.now (frame.header_length + 4 * k))) taps.old }
 {
-    let mut k = 0;
-    while k < count {
+    for k in 0..count {
         taps[k] = float(word(file, HEADER_LENGTH + 4 * k));
-        k += 1;
     }
 }
 

@@ -5,12 +5,14 @@ pub mod layout;
 mod running;
 mod text;
 
-ghost use Rattle.std.specs.Prelude.{◌≡◌, ◌≤◌, length};
-ghost use Rattle.rules.specs.Frame.{file_room, placed, printed, printout};
+ghost use Rattle.std.specs.Prelude.{◌≡◌, ◌≤◌, length, MatchResult};
+ghost use Rattle.rules.specs.Answers.{number_of};
+ghost use Rattle.rules.specs.Frame.{file_room, placed, printed, printout, refused_text};
 ghost use Rattle.frame.specs.Room.{text_room};
+ghost use Rattle.frame.specs.Running.{max_frame_area, Edges};
 
 use layout::{TAP_COUNT, breach, size_of, wide};
-use rules::{ACCEPTED, MAX_FRAME_LENGTH, MAX_TAPS, REFUSED_COUNT, REFUSED_LAYOUT};
+use rules::{MAX_FRAME_LENGTH, MAX_TAPS, Refusal};
 use running::{MAX_AREA, run_file};
 use text::{put_edges, put_refused};
 
@@ -20,26 +22,32 @@ pub const FILE_ROOM: usize = MAX_FRAME_LENGTH + 1;
 // Room for a printout: what the longest takes, 48 rows of 49 bytes behind "edges 48 48 2304".
 pub const TEXT_ROOM: usize = 2369;
 
-// Writes the printout of a frame file of any bytes. A breach of the layout comes first. More taps than a run takes are told by their
-// count, without decoding them: the layout has granted the tests that come before that one.
+// The count of edges of a frame file of any bytes, and its map. A breach of the layout comes first. More taps than a run takes are told by
+// their count, without decoding them: the layout has granted the tests that come before that one.
+fn edges_of(file: &[u8], map: &mut [u8]) -> Result<usize, Refusal>
+    requires { max_frame_area ≤ length map.old }
+    ensures { MatchResult result (Edges file.now map.new) (λ refusal. printout file.now ≡ refused_text (number_of refusal)) }
+{
+    if breach(file) {
+        return Err(Refusal::Layout);
+    }
+    let taps = wide(file, TAP_COUNT);
+    if MAX_TAPS < taps {
+        return Err(Refusal::Count);
+    }
+    run_file(file, taps, map)
+}
+
+// Writes the printout of a frame file of any bytes.
 fn print_file(file: &[u8], text: &mut [u8]) -> usize
     requires { text_room ≤ length text.old }
     ensures { (result, text.new) ≡ placed (printout file.now) text.old }
 {
-    if breach(file) {
-        return put_refused(REFUSED_LAYOUT, text);
-    }
-    let taps = wide(file, TAP_COUNT);
-    if MAX_TAPS < taps {
-        return put_refused(REFUSED_COUNT, text);
-    }
     let mut map = [0u8; MAX_AREA];
-    let counted = run_file(file, taps, &mut map);
-    let refusal = counted.refusal;
-    if refusal != ACCEPTED {
-        return put_refused(refusal, text);
+    match edges_of(file, &mut map) {
+        Ok(count) => put_edges(size_of(file), count, &map, text),
+        Err(refusal) => put_refused(refusal, text),
     }
-    put_edges(size_of(file), counted.count, &map, text)
 }
 
 // The same of a file's first bytes.

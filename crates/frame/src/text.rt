@@ -1,13 +1,16 @@
 // The printout's bytes (01.Frame.6, 01.Frame.7), written at a place of the lent text. Each function that writes returns the next place.
+// Text and place stay two parameters, since each clause says what the whole text is afterwards (`sets text.old at ..`).
 ghost use Rattle.std.specs.Prelude.{◌≡◌, cond, ◌∷◌, ◌++◌, [], ◌+◌, ◌*◌, ◌<◌, ◌≤◌, ltb, length, get_or, drop};
 ghost use Rattle.std.proofs.lemmas.List.Edits.{sets};
+ghost use Rattle.rules.specs.Answers.{number_of};
 ghost use Rattle.rules.specs.Picture.{filled};
 ghost use Rattle.rules.specs.Frame.{newline, decimal, refused_text, edges_text, rows_text, pixel_text, placed};
 ghost use Rattle.frame.specs.Room.{text_room, Rows, Shown};
 
-use rules::{EDGE, Size};
+use rules::{EDGE, Refusal, Size};
 
-// A digit's character.
+// A digit's character. Decimals are written by hand: the printing of std promises no more than that it ended well, and `decimal` says
+// each byte.
 fn digit(v: usize) -> u8
     requires { v < 10 }
     ensures { result ≡ 48 + v }
@@ -20,12 +23,9 @@ fn put_word(text: &mut [u8], at: usize, word: &[u8]) -> usize
     requires { at + length word.now ≤ length text.old }
     ensures { (result ≡ at + length word.now) × (text.new ≡ sets text.old at word.now) }
 {
-    let mut i = 0;
-    while i < word.len() {
-        text[at + i] = word[i];
-        i += 1;
-    }
-    at + i
+    let end = at + word.len();
+    text[at..end].copy_from_slice(word);
+    end
 }
 
 // A number's digits: those of its tenth, then the last.
@@ -69,12 +69,10 @@ fn put_row(row: &[u8], text: &mut [u8])
         ≡ filled (length row.now + 1) (λ x. cond (ltb x (length row.now)) (pixel_text (get_or row.now x 0)) newline)
         text.old }
 {
-    let mut x = 0;
-    while x < row.len() {
-        text[x] = character(row[x]);
-        x += 1;
+    for (x, v) in row.iter().enumerate() {
+        text[x] = character(*v);
     }
-    text[x] = b'\n';
+    text[row.len()] = b'\n';
 }
 
 // The map's rows.
@@ -85,23 +83,22 @@ fn put_rows(map: &[u8], size: Size, text: &mut [u8])
     let width = size.width;
     let height = size.height;
     let line = width + 1;
-    let mut y = 0;
-    while y < height {
+    for y in 0..height {
         let from = y * width;
         let to = from + width;
         let at = y * line;
         let end = at + line;
         put_row(&map[from..to], &mut text[at..end]);
-        y += 1;
     }
 }
 
 // "refused N".
-pub(crate) fn put_refused(number: u8, text: &mut [u8]) -> usize
+pub(crate) fn put_refused(refusal: Refusal, text: &mut [u8]) -> usize
     requires { text_room ≤ length text.old }
-    ensures { (result, text.new) ≡ placed (refused_text number) text.old }
+    ensures { (result, text.new) ≡ placed (refused_text (number_of refusal)) text.old }
 {
     let at = put_word(text, 0, b"refused ");
+    let number = u8::from(refusal);
     put_field(text, at, number as usize, b'\n')
 }
 

@@ -1,5 +1,5 @@
 // The frames of the folder frames/, each beside the print that stands there.
-ghost use Rattle.std.specs.Prelude.{◌≡◌, ◌≤◌, length, take};
+ghost use Rattle.std.specs.Prelude.{◌≤◌, length};
 
 use crate::building::prints;
 use frame::{FILE_ROOM, TEXT_ROOM};
@@ -7,74 +7,43 @@ use std::io::Read;
 use std::rt::Files;
 use std::{fs, io};
 
+const FRAMES: [(&str, &str); 6] = [
+    ("card.frame", "card.print"),
+    ("ring.frame", "ring.print"),
+    ("many_taps.frame", "many_taps.print"),
+    ("full.frame", "full.print"),
+    ("slope.frame", "slope.print"),
+    ("too_long.frame", "too_long.print"),
+];
+
 pub(crate) fn run(rt: &(impl Files + Print)) -> io::Result<()> {
-    report::yes(
-        rt,
-        b"card.frame prints card.print",
-        beside(rt, "card.frame", "card.print"),
-    )?;
-    report::yes(
-        rt,
-        b"ring.frame prints ring.print",
-        beside(rt, "ring.frame", "ring.print"),
-    )?;
-    report::yes(
-        rt,
-        b"many_taps.frame prints many_taps.print",
-        beside(rt, "many_taps.frame", "many_taps.print"),
-    )?;
-    report::yes(
-        rt,
-        b"full.frame prints full.print",
-        beside(rt, "full.frame", "full.print"),
-    )?;
-    report::yes(
-        rt,
-        b"slope.frame prints slope.print",
-        beside(rt, "slope.frame", "slope.print"),
-    )?;
-    report::yes(
-        rt,
-        b"too_long.frame prints too_long.print",
-        beside(rt, "too_long.frame", "too_long.print"),
-    )?;
+    for (name, printed) in FRAMES {
+        let good = beside(rt, name, printed);
+        print!(rt; "{name} prints {printed}")?;
+        report::yes(rt, b"", good)?;
+    }
     Ok(())
 }
 
-// The file's bytes: 0 where it cannot be read.
-fn load(rt: &impl Files, name: &str, buffer: &mut [u8]) -> usize
-    ensures { (result ≤ length buffer.new) × (result ≡ length (take result buffer.new)) }
+// Fills a buffer with a file's bytes, as far as there is room; the filled part, empty where the file cannot be read.
+fn load<'a>(rt: &impl Files, name: &str, buffer: &'a mut [u8]) -> &'a [u8]
+    ensures { length result.now ≤ length buffer.old }
 {
-    match fs::open(rt, name) {
-        Ok(mut file) => read_full(&mut file, buffer),
-        Err(_) => 0,
-    }
-}
-
-// Reads until the buffer is full, the file ends or a read fails; how many bytes.
-fn read_full(from: &mut impl Read, buffer: &mut [u8]) -> usize
-    ensures { result ≤ length buffer.new }
-{
-    let mut done = 0;
-    while done < buffer.len() {
-        let Ok(n) = from.read(&mut buffer[done..]) else {
-            return done;
-        };
-        if n == 0 {
-            return done;
-        }
-        done += n;
-    }
-    done
+    let Ok(file) = fs::open(rt, name) else {
+        return &[];
+    };
+    let most = buffer.len();
+    let mut room = &mut *buffer;
+    // Where a read fails, what came before it is looked at.
+    let _ = io::copy(&mut file.take(most as u64), &mut room);
+    let done = most.saturating_sub(room.len());
+    &buffer[..done]
 }
 
 fn beside(rt: &impl Files, name: &str, printed: &str) -> bool {
-    let mut wanted = [0u8; TEXT_ROOM];
-    let m = load(rt, printed, &mut wanted);
-    if m == 0 {
-        return false;
-    }
-    let mut file = [0u8; FILE_ROOM];
-    let n = load(rt, name, &mut file);
-    prints(&file, n, &wanted[..m])
+    let mut text = [0; TEXT_ROOM];
+    let wanted = load(rt, printed, &mut text);
+    let mut file = [0; FILE_ROOM];
+    let n = load(rt, name, &mut file).len();
+    !wanted.is_empty() && prints(&file, n, wanted)
 }

@@ -6,6 +6,7 @@ mod building;
 mod files;
 mod texts;
 
+use cases::{Row, Text};
 use std::io;
 
 // More bytes than the file has.
@@ -14,27 +15,43 @@ const TEXT: usize = 65536;
 fn main(rt: HostRuntime) -> io::Result<()> {
     let mut text = [0u8; TEXT];
     let n = cases::read_full(&mut rt.stdin(), &mut text)?;
-    lines_of(&rt, &text[..n])?;
+    for mut case in Text::new(&text[..n]).cases() {
+        let row = case.row(&rt)?;
+        line(&rt, &row)?;
+    }
     files::run(&rt)
 }
 
-fn lines_of(rt: &impl Print, text: &[u8]) -> io::Result<()> {
-    let mut at = 0;
-    while at < text.len() {
-        let case = cases::case(rt, text, &mut at)?;
-        line(rt, &case)?;
-    }
-    Ok(())
+// What is looked at, by a line's first number.
+enum Kind {
+    // The text.
+    Text,
+    // Its length.
+    Length,
+    // How many shorter lengths break the layout.
+    Shorter,
 }
 
-// A line's first number says what is looked at: 1 the text, 2 its length, 3 how many shorter lengths break the layout.
-fn line(rt: &impl Print, case: &[u32; 80]) -> io::Result<()> {
-    let file = building::file_of(case);
-    let kind = case[0];
-    match kind {
-        1 => texts::shown(rt, case, &file),
-        2 => texts::measured(rt, case, &file),
-        3 => texts::shorter(rt, case, &file),
-        _ => Ok(()),
+impl TryFrom<u32> for Kind {
+    type Error = u32;
+
+    fn try_from(n: u32) -> Result<Kind, u32> {
+        match n {
+            1 => Ok(Kind::Text),
+            2 => Ok(Kind::Length),
+            3 => Ok(Kind::Shorter),
+            _ => Err(n),
+        }
+    }
+}
+
+// A remark, a row of zeros, has nothing to look at.
+fn line(rt: &impl Print, row: &Row) -> io::Result<()> {
+    let file = building::file_of(row);
+    match Kind::try_from(row.number::<u32>(0)) {
+        Ok(Kind::Text) => texts::shown(rt, row, &file),
+        Ok(Kind::Length) => texts::measured(rt, row, &file),
+        Ok(Kind::Shorter) => texts::shorter(rt, row, &file),
+        Err(_) => Ok(()),
     }
 }

@@ -20,7 +20,7 @@ use Rattle.rules.specs.Sector.{Offset, offset, sector_of, neighbours}
 use Rattle.rules.specs.Suppression.{inner, floats, keeps, suppressed_by, suppressed_at}
 use Rattle.rules.specs.declared.Size.{Size}
 use Rattle.rules.proofs.Bools.{both}
-use Rattle.rules.proofs.Fill.{Filling, filling_part, filling_end, recount, still, onward}
+use Rattle.rules.proofs.Fill.{Filling, filling_part, recount}
 use Rattle.rules.proofs.Grid.{row_in_lem, row_of_lem, column_of_lem}
 use Rattle.rules.proofs.Border.{diff}
 use Rattle.pixel.proofs.Sectors.{is_false}
@@ -120,15 +120,6 @@ module _ (d : Size) (m : List Float) (gx gy : List ℤ) (x y : ℕ) where
   row_is : (start : ℕ) → start ≡ y * d.width → 0 < y → y + 1 < d.height → row_at d.width m gx gy start x ≡ suppressed_at d m gx gy x y
   unfolding row_at
   row_is start e k u = rw (e, pixel_is, lt-ltb 0 y k, lt-ltb (y + 1) d.height u, and-true)
-
--- ---- a loop that fills on, where the first k entries are filled already, from e
-
-pub filling_on : {n : ℕ} {f : ℕ → Float} {o : List Float} (k : ℕ) (e : List Float) → k ≤ n → o ≡ filled k f e → Filling n k f o o
-filling_on {n} {f} {o} k e h p = record { within = h; same = refl; is = still k f e o p }
-
-pub filling_whole : {n i : ℕ} {f : ℕ → Float} {o l : List Float} (k : ℕ) (e : List Float) → k ≤ n → o ≡ filled k f e → Filling n i f o l → n ≤ i
-    → l ≡ filled n f e
-filling_whole {n} {i} {f} {o} {l} k e h p q t = onward k n f e o l h p (filling_end q t)
 
 -- ---- the parts of a picture, from what the code leaves of them
 

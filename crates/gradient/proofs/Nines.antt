@@ -26,7 +26,7 @@ use Rattle.border.proofs.Reading.{placed_is, read_in_lem, read_is}
 use Rattle.pixel.specs.Components.{component, nine_energy}
 use Rattle.pixel.specs.Halving.{held}
 use Rattle.pixel.proofs.Halving.{held_byte}
-use Rattle.gradient.specs.Nine.{nine_about, row_in, nine_of, nine_in}
+use Rattle.gradient.specs.Nine.{Three, three_about, nine_about, row_in, nine_of, nine_in, HasBeside}
 
 pub nine_same : {a b c d e f g h i a' b' c' d' e' f' g' h' i' : ℕ} → a ≡ a' → b ≡ b' → c ≡ c' → d ≡ d' → e ≡ e' → f ≡ f' → g ≡ g' → h ≡ h' → i ≡ i'
     → ◌≡◌ {A = List ℕ} (a ∷ b ∷ c ∷ d ∷ e ∷ f ∷ g ∷ h ∷ i ∷ []) (a' ∷ b' ∷ c' ∷ d' ∷ e' ∷ f' ∷ g' ∷ h' ∷ i' ∷ [])
@@ -40,11 +40,10 @@ own mode at c side e h l =
     rw (placed_is mode (pos at -ℤ pos 1) side (omega arith) l, diff at 1 (omega arith), p, resolved_inside mode c side h)
 
 -- the columns beside an inner column are its own
-pub beside_is : (mode : BorderMode) (above row below : List ℕ) (x : ℕ) → 0 < x → x + 1 < length row → length row ≤ max_side
-    → nine_of above row below (x - 1) x (x + 1) ≡ nine_in mode above row below x
+pub beside_is : (t : Three) (x : ℕ) → length t.row ≤ max_side → HasBeside t x 1 → nine_of t (x - 1) x (x + 1) ≡ nine_in t x
 unfolding nine_in
-beside_is mode above row below x h k l =
-    rw (own mode (x + 0) (x - 1) (length row) (omega arith) (omega arith) l, own mode (x + 2) (x + 1) (length row) (omega arith) k l)
+beside_is t x l h =
+    rw (own t.mode (x + 0) (x - 1) (length t.row) (omega arith) (omega (arith, h.in_row)) l, own t.mode (x + 2) (x + 1) (length t.row) (omega arith) h.in_row l)
 
 -- ---- rows
 
@@ -77,26 +76,24 @@ module _ (d : Size) (mode : BorderMode) (pixels : List ℕ) (p : Picture d pixel
         → get_or (row_in d pixels b) a 0 ≡ byte_sample pixels d mode (under x 3 i) (under y 3 j)
     place i j e f = rw (e, f) (sample _ _ (omega arith) (omega arith))
 
-    pub nine_is : {above row below : List ℕ} → above ≡ row_in d pixels (placed mode (under y 3 0) d.height) → row ≡ row_in d pixels y
-        → below ≡ row_in d pixels (placed mode (under y 3 2) d.height) → nine_in mode above row below x ≡ nine_about d mode pixels x y
-    unfolding nine_in nine_about tabulate
-    nine_is a r b =
+    pub nine_is : nine_in (three_about d mode pixels y) x ≡ nine_about d mode pixels x y
+    unfolding nine_in nine_about tabulate three_about
+    nine_is =
         let m = sym (own mode (x + 1) x d.width refl inx p.sides.width) in
         let n = sym (own mode (y + 1) y d.height refl iny p.sides.height) in
-        rw (a, r, b, row_length y iny)
+        rw (row_length y iny)
         (nine_same (place 0 0 refl refl) (place 1 0 m refl) (place 2 0 refl refl) (place 0 1 refl n) (place 1 1 m n) (place 2 1 refl n)
         (place 0 2 refl refl) (place 1 2 m refl) (place 2 2 refl refl))
 
-  -- the row that begins at `start`, as the code lends it
-  pub own_row : (y start : ℕ) → start ≡ y * d.width → y < d.height → take (start + d.width - start) (drop start pixels) ≡ row_in d pixels y
-  unfolding row_in
-  own_row y start e h = let n : start + d.width - start ≡ d.width = omega arith in rw (lt-ltb y d.height h, n, e)
+  -- the row of those about row y
+  pub about_row : (y : ℕ) → y < d.height → length (three_about d mode pixels y).row ≡ d.width
+  unfolding three_about
+  about_row y h = row_length y h
 
   -- a row of what F makes of the nine
-  pub row_is : {A : Type 0} (F : List ℕ → A) (G : ℕ → A) (y : ℕ) {above row below : List ℕ} (o : List A) {r : List A} → y < d.height
-      → above ≡ row_in d pixels (placed mode (under y 3 0) d.height) → row ≡ row_in d pixels y → below ≡ row_in d pixels (placed mode (under y 3 2) d.height)
-      → ((x : ℕ) → F (nine_about d mode pixels x y) ≡ G x) → r ≡ filled (length row) (λ x. F (nine_in mode above row below x)) o → r ≡ filled d.width G o
-  row_is F G y o h a w b e q = recount d.width _ G o _ (rw (ap length w ∙ row_length y h) at q) (λ x l. ap F (nine_is x y l h a w b) ∙ e x)
+  pub row_is : {A : Type 0} (F : List ℕ → A) (G : ℕ → A) (y n : ℕ) (o : List A) {r : List A} → y < d.height → n ≡ d.width
+      → ((x : ℕ) → F (nine_about d mode pixels x y) ≡ G x) → r ≡ filled n (λ x. F (nine_in (three_about d mode pixels y) x)) o → r ≡ filled d.width G o
+  row_is F G y n o h w e q = recount d.width _ G o _ (rw w at q) (λ x l. ap F (nine_is x y l h) ∙ e x)
 
 -- ---- what is made of the nine
 

@@ -3,6 +3,7 @@
 #![tactic(auto)]
 
 pub mod components;
+mod fill;
 pub mod magnitude;
 pub mod sobel;
 pub mod suppression;

@@ -2,16 +2,27 @@
 use Prim.Native.Nat.{ℕ, zero, suc, ◌≤◌, ◌<◌}
 use native.Mathlib.Omega.{arith}
 use native.Mathlib.Numerals.{add-one}
-use mathlib.Core.Path.{◌≡◌, refl, ap, ◌∙◌}
+use mathlib.Core.Path.{◌≡◌, refl, sym, ap, ◌∙◌}
 use mathlib.Core.Bool.{Bool, true, false}
-use mathlib.Core.List.{List}
+use mathlib.Core.List.{List, ◌++◌, append-nil}
 use lib.Dec.{eqb}
-use lib.ListN.{length, get_or, set}
-use lib.Seq.{get_or-set_other}
-use Rattle.rules.specs.Picture.{tabulate, cleared}
+use lib.ListN.{length, get_or, set, take, drop, drop_of_length-le, get_or-append}
+use lib.Seq.{get_or-set_other, length-take-le}
+use Rattle.rules.specs.Picture.{tabulate, filled, cleared}
 use Rattle.rules.specs.Walk.{State, state, has, class, classed, started}
 use Rattle.hysteresis.specs.Split.{mark_of, marked, put, stacked}
-use Rattle.rules.proofs.Fill.{fill_more, filled_at}
+use Rattle.rules.proofs.Fill.{length_filled, fill_more, filled_at}
+
+-- the first n entries of a buffer, lent and filled whole
+pub first_filled : {A : Type 0} (n : ℕ) (f : ℕ → A) (o : List A) {r : List A} → n ≤ length o → r ≡ filled (length (take n o)) f (take n o) → r ++ drop n o ≡ filled n f o
+first_filled n f o h p =
+    let e : length (take n o) ≡ n = length-take-le n o h in
+    let s : length (take n o) ≤ n = omega arith in
+    rw (rw e at p, drop_of_length-le (take n o) s, append-nil)
+
+-- they are still n
+pub still_first : {A : Type 0} (n : ℕ) (f : ℕ → A) (o : List A) {r : List A} → n ≤ length o → r ≡ filled (length (take n o)) f (take n o) → length r ≡ n
+still_first n f o h p = ap length p ∙ length_filled (length (take n o)) f (take n o) (omega arith) ∙ length-take-le n o h
 
 -- no more are pending than were looked at
 put_few : (b : Bool) (i : ℕ) (s : List ℕ × ℕ) → s.1 ≤ i → (put b i s).1 ≤ suc i
@@ -64,6 +75,15 @@ both_passes hi lo marks stack {n} {p} {m} {s} h e f =
     let strong : (i : ℕ) → i < n → has 2 m i ≡ hi i = λ i l. ap (λ (k : ℕ). eqb k 2) (filled_at n _ marks m 0 i e l) ∙ strong_only (hi i) (lo i) in
     let t : (s, p) ≡ stacked hi n o = f ∙ stacked_same (has 2 m) hi n o strong in
     rw (in_two hi lo marks o n h, ← t, ← e)
+
+-- and so they are where the first n marks are lent by themselves
+pub passes_of_part : (hi lo : ℕ → Bool) (marks stack : List ℕ) {n p : ℕ} {m s : List ℕ} → n ≤ length marks → m ≡ marked hi lo (length (take n marks)) (take n marks)
+    → (s, p) ≡ stacked (has 2 m) (length m) (cleared (length m) 0 stack) → state (m ++ drop n marks) s p ≡ started hi lo n marks stack
+passes_of_part hi lo marks stack {n} {p} {m} {s} h e f =
+    let k : length m ≡ n = still_first n _ marks h e in
+    let all = m ++ drop n marks in
+    let same : (i : ℕ) → i < n → has 2 m i ≡ has 2 all i = λ i l. ap (λ (x : ℕ). eqb x 2) (sym (get_or-append m (drop n marks) 0 i (omega (arith, k)))) in
+    both_passes hi lo marks stack h (first_filled n _ marks h e) (rw k at f ∙ stacked_same (has 2 m) (has 2 all) n (cleared n 0 stack) same)
 
 -- ---- places from the pending count on hold 0 (01.Walk.5)
 

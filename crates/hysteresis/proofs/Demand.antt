@@ -23,7 +23,7 @@ use Rattle.rules.specs.Joined.Way.{here, on}
 use Rattle.rules.specs.declared.Size.{Size}
 use Rattle.rules.specs.declared.Thresholds.{Thresholds}
 use Rattle.rules.specs.declared.Walk.{Walk}
-use Rattle.rules.specs.declared.Started.{Started}
+use Rattle.rules.specs.Answers.{Started}
 use Rattle.rules.proofs.Bools.{true_is, is_true, neither}
 use Rattle.rules.proofs.Fill.{filled_at}
 use Rattle.rules.proofs.Rows.{rows}

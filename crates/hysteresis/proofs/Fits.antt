@@ -12,15 +12,14 @@ use lib.ListN.{set, drop, length-set}
 use lib.Seq.{get_or-set_same, get_or-set_other, drop-set-lt}
 use borrow.Author.Tests.{eqb-false}
 use Rattle.rules.specs.Picture.{area, bit, cleared}
-use Rattle.rules.specs.Walk.{State, state, mark, count, push, pop, last, visit, taken, sliced, class, classed, started}
+use Rattle.rules.specs.Walk.{State, state, mark, count, push, pop, last, taken, sliced, class, classed, started}
 use Rattle.rules.specs.declared.Size.{Size}
 use Rattle.rules.proofs.Fill.{drop_filled}
 use Rattle.rules.proofs.Tests.{below_suc}
 use Rattle.rules.proofs.Tallies.{count_less, count_same}
 use Rattle.hysteresis.specs.Fit.{Fit}
-use Rattle.hysteresis.specs.Around.{row}
 use Rattle.hysteresis.proofs.Places.{place_in_lem}
-use Rattle.hysteresis.proofs.Visits.{visit_keeps, looks_keep}
+use Rattle.hysteresis.proofs.Visits.{looks_keep}
 
 module _ {d : Size} where
   module _ (s : State) (h : Fit d s) (r : ℕ) (l : r < area d) (e : mark s r ≡ 1) where
@@ -31,7 +30,17 @@ module _ {d : Size} where
     pub room_for : s.pending < area d
     room_for = omega (arith, counted, h.room)
 
-    fit_push : Fit d (push r s)
+    -- nor does its mark alone change what fits
+    pub fit_marked : Fit d (state (set s.marks r 2) s.stack s.pending)
+    fit_marked = record {
+      small = h.small;
+      marks_long = omega (arith, h.marks_long, length-set s.marks r 2);
+      stack_long = h.stack_long;
+      room = omega (arith, counted, h.room);
+      held = h.held;
+    }
+
+    pub fit_push : Fit d (push r s)
     fit_push = record {
       small = h.small;
       marks_long = omega (arith, h.marks_long, length-set s.marks r 2);
@@ -41,13 +50,6 @@ module _ {d : Size} where
           ⊎_elim (λ (z : i ≡ s.pending). rw (z, get_or-set_same s.stack s.pending r 0 (omega (arith, room_for, h.stack_long))) l)
           (λ z. omega (arith, get_or-set_other s.stack s.pending i r 0 (omega arith), h.held i z)) (below_suc {n = s.pending} (omega arith));
     }
-
-  pub fit_visit : (nx ny : ℕ) {s : State} → Fit d s → Fit d (visit d nx ny s)
-  fit_visit nx ny {s} h = visit_keeps d (Fit d) (λ r. r < area d) fit_push nx ny place_in_lem s h
-
-  pub fit_row : (x ny : ℕ) {s : State} → Fit d s → Fit d (row d x ny s)
-  unfolding row
-  fit_row x ny h = fit_visit (x + 2) ny (fit_visit (x + 1) ny (fit_visit x ny h))
 
   module _ {s : State} (h : Fit d s) (p : 0 < s.pending) where
     pub last_in : last s < area d

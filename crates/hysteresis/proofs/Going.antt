@@ -37,9 +37,9 @@ module _ {d : Size} {b : ℕ} {s₀ : State} {t : ℕ} {s : State} (g : Going d 
         fit = rw e (fit_taken g.fit p);
       }
 
-  pub going_spent : b ≤ t → (s ≡ sliced d b s₀) × (t ≡ takes d b s₀)
+  pub going_spent : b ≤ t → (s ≡ sliced d b s₀) × (b ≡ takes d b s₀)
   unfolding sliced takes
-  going_spent l = let m : b - t ≡ 0 = omega arith in (rw m at g.rest, omega (arith, rw m at g.made))
+  going_spent l = let m : b - t ≡ 0 = omega arith in (rw m at g.rest, omega (arith, g.within, rw m at g.made))
 
   pub going_ended : s.pending ≡ 0 → (s ≡ sliced d b s₀) × (t ≡ takes d b s₀)
   going_ended p = let x = ended d (b - t) s p in (rw x.0 at g.rest, omega (arith, g.made))

@@ -5,6 +5,7 @@ pub mod Visits
 pub mod Fits
 pub mod Going
 pub mod Numbers
+pub mod Answering
 pub mod Floats
 pub mod Invariant
 pub mod Steps

@@ -2,4 +2,5 @@
 pub mod Split
 pub mod Fit
 pub mod Around
+pub mod Taking
 pub mod Demand

@@ -8,9 +8,9 @@ ghost use Rattle.rules.specs.Walk.{has, at_least};
 ghost use Rattle.hysteresis.specs.Split.{mark_of, marked, put, stacked};
 
 use rules::{MARK_NONE, MARK_PENDING, MARK_WEAK, Thresholds};
-use scratch::clear_places;
+use scratch::clear;
 
-// A pixel's mark by its magnitude m; a NaN is below everything.
+// A pixel's mark by its magnitude m; a NaN is below everything. A byte and no enum: the marks stand in lent buffers, which C reads too.
 fn mark_of(m: f32, thresholds: Thresholds) -> u8
     ensures { result ≡ mark_of (Ieee.le thresholds.high m) (Ieee.le thresholds.low m) }
 {
@@ -23,16 +23,14 @@ fn mark_of(m: f32, thresholds: Thresholds) -> u8
     MARK_NONE
 }
 
-// The first n marks. The stack is filled in a second pass, so that this one looks at several pixels at once.
-pub(crate) fn mark_all(magnitudes: &[f32], thresholds: Thresholds, marks: &mut [u8], n: usize)
-    requires { (n ≤ length magnitudes.now) × (n ≤ length marks.old) }
+// The marks. The stack is filled in a second pass, so that this one takes no branch.
+pub(crate) fn mark_all(magnitudes: &[f32], thresholds: Thresholds, marks: &mut [u8])
+    requires { length marks.old ≤ length magnitudes.now }
     ensures { marks.new
-        ≡ marked (at_least thresholds.high magnitudes.now) (at_least thresholds.low magnitudes.now) n marks.old }
+        ≡ marked (at_least thresholds.high magnitudes.now) (at_least thresholds.low magnitudes.now) (length marks.old) marks.old }
 {
-    let mut i = 0;
-    while i < n {
-        marks[i] = mark_of(magnitudes[i], thresholds);
-        i += 1;
+    for (i, mark) in marks.iter_mut().enumerate() {
+        *mark = mark_of(magnitudes[i], thresholds);
     }
 }
 
@@ -48,25 +46,23 @@ fn stack_one(mark: u8, stack: &mut [u32], pending: usize, i: usize) -> usize
     pending
 }
 
-// The pending ones of the first n pixels go on the stack, in row order; how many.
-fn stack_all(marks: &[u8], stack: &mut [u32], n: usize) -> usize
-    requires { (n ≤ max_area) × (n ≤ length marks.now) × (n ≤ length stack.old) }
-    ensures { (stack.new, result) ≡ stacked (has 2 marks.now) n stack.old }
+// The pending ones of the pixels go on the stack, in row order; how many.
+fn stack_all(marks: &[u8], stack: &mut [u32]) -> usize
+    requires { (length marks.now ≤ max_area) × (length marks.now ≤ length stack.old) }
+    ensures { (stack.new, result) ≡ stacked (has 2 marks.now) (length marks.now) stack.old }
 {
     let mut pending = 0;
-    let mut i = 0;
-    while i < n {
-        pending = stack_one(marks[i], stack, pending, i);
-        i += 1;
+    for (i, mark) in marks.iter().enumerate() {
+        pending = stack_one(*mark, stack, pending, i);
     }
     pending
 }
 
 // The pixels with mark 2 become pending, whatever classed them: the stack's other places are 0.
-pub(crate) fn pend(marks: &[u8], stack: &mut [u32], n: usize) -> usize
-    requires { (n ≤ max_area) × (n ≤ length marks.now) × (n ≤ length stack.old) }
-    ensures { (stack.new, result) ≡ stacked (has 2 marks.now) n (cleared n 0 stack.old) }
+pub(crate) fn pend(marks: &[u8], stack: &mut [u32]) -> usize
+    requires { (length marks.now ≤ max_area) × (length marks.now ≤ length stack.old) }
+    ensures { (stack.new, result) ≡ stacked (has 2 marks.now) (length marks.now) (cleared (length marks.now) 0 stack.old) }
 {
-    clear_places(stack, n);
-    stack_all(marks, stack, n)
+    clear(stack, marks.len(), 0);
+    stack_all(marks, stack)
 }

@@ -7,10 +7,12 @@ mod takes;
 
 ghost use Rattle.std.specs.Prelude.{◌≡◌, ◌≤◌, length};
 ghost use Rattle.rules.specs.Walk.{mapped};
+ghost use Rattle.rules.specs.Answers.{start_answer, slice_answer, map_answer};
 ghost use Rattle.rules.specs.Calls as Calls;
 
 use refusals::walk::{of_map, of_slice, of_start};
-use rules::{ACCEPTED, EDGE, MARK_FINISHED, Mapped, Size, Sliced, Started, Thresholds, Walk};
+use rules::{EDGE, MARK_FINISHED, Progress, Refusal, Size, Thresholds, Walk};
+use takes::Takes;
 
 // Starts a walk: each pixel's magnitude is classed by the thresholds, and the strong ones are pending.
 pub fn start(
@@ -19,89 +21,63 @@ pub fn start(
     thresholds: Thresholds,
     marks: &mut [u8],
     stack: &mut [u32],
-) -> Started
-    ensures { (result, (marks.new, stack.new))
+) -> Result<Walk, Refusal>
+    ensures { (start_answer result, (marks.new, stack.new))
         ≡ Calls.start size thresholds magnitudes.now marks.old stack.old }
 {
-    let refusal = of_start(magnitudes, size, thresholds, marks, stack);
-    if refusal != ACCEPTED {
-        return Started {
-            refusal,
-            walk: Walk {
-                width: 0,
-                height: 0,
-                pending: 0,
-            },
-        };
-    }
-    let n = size.width * size.height;
-    classes::mark_all(magnitudes, thresholds, marks, n);
-    let pending = classes::pend(marks, stack, n);
-    Started {
-        refusal: ACCEPTED,
-        walk: Walk {
-            width: size.width,
-            height: size.height,
-            pending,
-        },
-    }
+    of_start(magnitudes, size, thresholds, marks, stack)?;
+    let marked = &mut marks[..size.width * size.height];
+    classes::mark_all(magnitudes, thresholds, marked);
+    let pending = classes::pend(marked, stack);
+    Ok(Walk {
+        width: size.width,
+        height: size.height,
+        pending,
+    })
 }
 
 // A slice: takes until its budget is spent or nothing is pending.
-pub fn slice(walk: Walk, budget: usize, marks: &mut [u8], stack: &mut [u32]) -> Sliced
-    ensures { (result, (marks.new, stack.new)) ≡ Calls.slice walk budget marks.old stack.old }
+pub fn slice(
+    walk: Walk,
+    budget: usize,
+    marks: &mut [u8],
+    stack: &mut [u32],
+) -> Result<Progress, Refusal>
+    ensures { (slice_answer walk result, (marks.new, stack.new)) ≡ Calls.slice walk budget marks.old stack.old }
 {
-    let size = Size {
-        width: walk.width,
-        height: walk.height,
+    let size = Size::from(walk);
+    of_slice(marks, stack, walk.pending, size, budget)?;
+    let mut walking = Takes {
+        marks,
+        stack,
+        pending: walk.pending,
+        size,
     };
-    let refusal = of_slice(marks, stack, walk.pending, size, budget);
-    if refusal != ACCEPTED {
-        return Sliced {
-            refusal,
-            takes: 0,
-            walk,
-        };
-    }
-    let made = takes::take_until(marks, stack, walk.pending, size, budget);
-    Sliced {
-        refusal: ACCEPTED,
-        takes: made.takes,
+    let takes = walking.take_until(budget);
+    Ok(Progress {
+        takes,
         walk: Walk {
-            width: walk.width,
-            height: walk.height,
-            pending: made.pending,
+            pending: walking.pending,
+            ..walk
         },
-    }
+    })
 }
 
 // The map of a walk that has ended.
-pub fn map(walk: Walk, marks: &[u8], stack: &[u32], out: &mut [u8]) -> Mapped
-    ensures { (result, out.new) ≡ Calls.map walk marks.now stack.now out.old }
+pub fn map(walk: Walk, marks: &[u8], stack: &[u32], out: &mut [u8]) -> Result<(), Refusal>
+    ensures { (map_answer walk result, out.new) ≡ Calls.map walk marks.now stack.now out.old }
 {
-    let size = Size {
-        width: walk.width,
-        height: walk.height,
-    };
-    let refusal = of_map(marks, stack, walk.pending, size, out);
-    if refusal != ACCEPTED {
-        return Mapped { refusal, walk };
-    }
-    fill_map(marks, out, walk.width * walk.height);
-    Mapped {
-        refusal: ACCEPTED,
-        walk,
-    }
+    of_map(marks, stack, walk.pending, Size::from(walk), out)?;
+    fill_map(marks, &mut out[..walk.width * walk.height]);
+    Ok(())
 }
 
-// The map's first n entries: 255 where the mark is 3, else 0 (01.Walk.11).
-fn fill_map(marks: &[u8], out: &mut [u8], n: usize)
-    requires { (n ≤ length marks.now) × (n ≤ length out.old) }
-    ensures { out.new ≡ mapped n marks.now out.old }
+// The map's entries: 255 where the mark is 3, else 0 (01.Walk.11).
+fn fill_map(marks: &[u8], map: &mut [u8])
+    requires { length map.old ≤ length marks.now }
+    ensures { map.new ≡ mapped (length map.old) marks.now map.old }
 {
-    let mut i = 0;
-    while i < n {
-        out[i] = if marks[i] == MARK_FINISHED { EDGE } else { 0 };
-        i += 1;
+    for (q, entry) in map.iter_mut().enumerate() {
+        *entry = if marks[q] == MARK_FINISHED { EDGE } else { 0 };
     }
 }

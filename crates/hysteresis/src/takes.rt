@@ -1,115 +1,92 @@
 // Takes, and what each is made of (01.Walk.7, 01.Walk.8). They are the definition's on every state that fits, forged ones included.
-ghost use Rattle.std.specs.Prelude.{◌≡◌, ◌<◌, length, get_or};
-ghost use Rattle.rules.specs.Limits.{max_area};
-ghost use Rattle.rules.specs.Walk.{state, look, visit, taken, sliced, takes};
+ghost use Rattle.rules.specs.Walk.{state};
 ghost use Rattle.hysteresis.specs.Fit.{Fit};
-ghost use Rattle.hysteresis.specs.Around.{row};
 
 use rules::{MARK_FINISHED, MARK_PENDING, MARK_WEAK, Size};
 
-// What a run of takes leaves.
+// A walk under way over the lent marks and stack. Whatever is done to it, it fits.
 #[derive(Drop)]
-pub(crate) struct Made {
-    pub takes: usize,
+pub(crate) struct Takes<'a> {
+    pub marks: &'a mut [u8],
+    pub stack: &'a mut [u32],
     pub pending: usize,
+    pub size: Size,
+    ghost fits: { Fit size (state marks.now stack.now pending) },
 }
 
-// Pixel r is looked at: with mark 1 it gets mark 2 and is put on the stack.
-fn look_at(marks: &mut [u8], stack: &mut [u32], pending: usize, r: usize) -> usize
-    requires { (r < length marks.old) × (r < max_area) × (get_or marks.old r 0 ≡ 1 → pending < length stack.old) }
-    ensures { state marks.new stack.new result ≡ look r (state marks.old stack.old pending) }
-{
-    if marks[r] == MARK_WEAK {
-        marks[r] = MARK_PENDING;
-        stack[pending] = r as u32;
-        return pending + 1;
-    }
-    pending
-}
+impl Takes<'_> {
+    ghost use Rattle.std.specs.Prelude.{◌≡◌, ◌<◌};
+    ghost use Rattle.rules.specs.Limits.{max_area};
+    ghost use Rattle.rules.specs.Picture.{area};
+    ghost use Rattle.rules.specs.Walk.{look, visit, taken, sliced, takes};
+    ghost use Rattle.hysteresis.specs.Around.{row};
+    ghost use Rattle.hysteresis.specs.Taking.{held, Same};
 
-// The pixel in column nx - 1 and row ny - 1 is looked at, where it is in the picture.
-fn visit_at(
-    marks: &mut [u8],
-    stack: &mut [u32],
-    pending: usize,
-    size: Size,
-    nx: usize,
-    ny: usize,
-) -> usize
-    requires { Fit size (state marks.old stack.old pending) }
-    ensures { state marks.new stack.new result ≡ visit size nx ny (state marks.old stack.old pending) }
-{
-    if nx < 1 {
-        return pending;
-    }
-    if size.width < nx {
-        return pending;
-    }
-    if ny < 1 {
-        return pending;
-    }
-    if size.height < ny {
-        return pending;
-    }
-    look_at(marks, stack, pending, (ny - 1) * size.width + (nx - 1))
-}
-
-// The three places of row ny - 1 from column x - 1 on.
-fn visit_row(
-    marks: &mut [u8],
-    stack: &mut [u32],
-    pending: usize,
-    size: Size,
-    x: usize,
-    ny: usize,
-) -> usize
-    requires { (x < max_area) × Fit size (state marks.old stack.old pending) }
-    ensures { state marks.new stack.new result ≡ row size x ny (state marks.old stack.old pending) }
-{
-    let left = visit_at(marks, stack, pending, size, x, ny);
-    let middle = visit_at(marks, stack, left, size, x + 1, ny);
-    visit_at(marks, stack, middle, size, x + 2, ny)
-}
-
-// One take: the last index is removed, its pixel finished, and the three rows around it are looked at.
-fn take_one(marks: &mut [u8], stack: &mut [u32], pending: usize, size: Size) -> usize
-    requires { (0 < pending) × Fit size (state marks.old stack.old pending) }
-    ensures { state marks.new stack.new result ≡ taken size (state marks.old stack.old pending) }
-{
-    let at = pending - 1;
-    let q = stack[at] as usize;
-    stack[at] = 0;
-    marks[q] = MARK_FINISHED;
-    let x = q % size.width;
-    let y = q / size.width;
-    let above = visit_row(marks, stack, at, size, x, y);
-    let beside = visit_row(marks, stack, above, size, x, y + 1);
-    visit_row(marks, stack, beside, size, x, y + 2)
-}
-
-// Takes until the budget is spent or nothing is pending.
-pub(crate) fn take_until(
-    marks: &mut [u8],
-    stack: &mut [u32],
-    pending: usize,
-    size: Size,
-    budget: usize,
-) -> Made
-    requires { Fit size (state marks.old stack.old pending) }
-    ensures { (state marks.new stack.new result.pending ≡ sliced size budget (state marks.old stack.old pending))
-        × (result.takes ≡ takes size budget (state marks.old stack.old pending)) }
-{
-    let mut left = pending;
-    let mut done = 0;
-    while done < budget {
-        if left == 0 {
-            break;
+    // Pixel r is looked at: with mark 1 it gets mark 2 and is put on the stack.
+    fn look_at(&mut self, r: usize)
+        requires { r < area self.old.size }
+        ensures same { Same self.old self.new }
+        ensures looked { held self.new ≡ look r (held self.old) }
+    {
+        if self.marks[r] == MARK_WEAK {
+            self.marks[r] = MARK_PENDING;
+            self.stack[self.pending] = r as u32;
+            self.pending += 1;
         }
-        left = take_one(marks, stack, left, size);
-        done += 1;
     }
-    Made {
-        takes: done,
-        pending: left,
+
+    // The pixel in column nx - 1 and row ny - 1 is looked at, where it is in the picture.
+    fn visit_at(&mut self, nx: usize, ny: usize)
+        ensures same { Same self.old self.new }
+        ensures visited { held self.new ≡ visit self.old.size nx ny (held self.old) }
+    {
+        let Size { width, height } = self.size;
+        if 1 <= nx && nx <= width && 1 <= ny && ny <= height {
+            self.look_at((ny - 1) * width + (nx - 1));
+        }
+    }
+
+    // The three places of row ny - 1 from column x - 1 on.
+    fn visit_row(&mut self, x: usize, ny: usize)
+        requires { x < max_area }
+        ensures same { Same self.old self.new }
+        ensures visited { held self.new ≡ row self.old.size x ny (held self.old) }
+    {
+        self.visit_at(x, ny);
+        self.visit_at(x + 1, ny);
+        self.visit_at(x + 2, ny);
+    }
+
+    // One take: the last index is removed, its pixel finished, and the three rows around it are looked at.
+    fn take_one(&mut self)
+        requires { 0 < self.old.pending }
+        ensures same { Same self.old self.new }
+        ensures took { held self.new ≡ taken self.old.size (held self.old) }
+    {
+        self.pending -= 1;
+        let at = self.pending;
+        let q = self.stack[at] as usize;
+        self.stack[at] = 0;
+        self.marks[q] = MARK_FINISHED;
+        let x = q % self.size.width;
+        let y = q / self.size.width;
+        self.visit_row(x, y);
+        self.visit_row(x, y + 1);
+        self.visit_row(x, y + 2);
+    }
+
+    // Takes until the budget is spent or nothing is pending; how many.
+    pub(crate) fn take_until(&mut self, budget: usize) -> usize
+        ensures same { Same self.old self.new }
+        ensures left { held self.new ≡ sliced self.old.size budget (held self.old) }
+        ensures made { result ≡ takes self.old.size budget (held self.old) }
+    {
+        for done in 0..budget {
+            if self.pending == 0 {
+                return done;
+            }
+            self.take_one();
+        }
+        budget
     }
 }

@@ -1,83 +1,50 @@
 // What the buffers hold before a call, and the lines of what they hold after it, beside numbers of the case.
-use cases::wide;
-use rules::Walk;
+use cases::{Number, Row};
+use rules::{MARK_FINISHED, Walk};
 use std::io;
 
+// An entry more than a picture of three by three has pixels.
+pub(crate) const ROOM: usize = 10;
+
 // Each buffer has numbers of its own: an entry that is left alone shows whose it is and where it stood. No call here writes these.
-pub(crate) const MARKS_BEFORE: [u8; 10] = [71, 72, 73, 74, 75, 76, 77, 78, 79, 80];
+pub(crate) const MARKS_BEFORE: [u8; ROOM] = [71, 72, 73, 74, 75, 76, 77, 78, 79, 80];
 
-pub(crate) const STACK_BEFORE: [u32; 10] = [81, 82, 83, 84, 85, 86, 87, 88, 89, 90];
+pub(crate) const STACK_BEFORE: [u32; ROOM] = [81, 82, 83, 84, 85, 86, 87, 88, 89, 90];
 
-pub(crate) const MAP_BEFORE: [u8; 10] = [91, 92, 93, 94, 95, 96, 97, 98, 99, 100];
+pub(crate) const MAP_BEFORE: [u8; ROOM] = [91, 92, 93, 94, 95, 96, 97, 98, 99, 100];
 
-// Up to ten bytes beside the numbers of the case from one on.
-pub(crate) fn bytes_line(
+// The state of a start that is refused.
+pub(crate) const NO_WALK: Walk = Walk {
+    width: 0,
+    height: 0,
+    pending: 0,
+};
+
+// A buffer of up to ten entries, beside the numbers of the case from one on.
+pub(crate) fn list<T: Number>(
     rt: &impl Print,
     name: &[u8],
-    got: &[u8],
-    case: &[u32],
+    got: &[T],
+    row: &Row,
     from: usize,
 ) -> io::Result<()> {
-    let mut wanted = [0u8; 10];
-    if from <= 70 {
-        let end = from + 10;
-        if end <= case.len() {
-            cases::bytes(&case[from..end], &mut wanted);
-        }
-    }
-    as_many(rt, name, got, &wanted)
-}
-
-// An array comes as it is: of one that was lent a slice would need a proof of its length.
-fn as_many(rt: &impl Print, name: &[u8], got: &[u8], wanted: &[u8; 10]) -> io::Result<()> {
-    let all = &wanted[..];
-    let n = got.len();
-    if n <= all.len() {
-        report::bytes(rt, name, got, &all[0..n])?;
+    let mut room = [T::from_pattern(0); ROOM];
+    if let Some(wanted) = room.get_mut(..got.len()) {
+        row.list(from, wanted);
+        report::list(rt, name, got, wanted)?;
     }
     Ok(())
 }
 
-// The same of places.
-pub(crate) fn places_line(
-    rt: &impl Print,
-    name: &[u8],
-    got: &[u32],
-    case: &[u32],
-    from: usize,
-) -> io::Result<()> {
-    if from <= case.len() {
-        if got.len() <= case.len() - from {
-            let end = from + got.len();
-            report::places(rt, name, got, &case[from..end])?;
-        }
-    }
+// The three numbers of a walk's state.
+pub(crate) fn state(rt: &impl Print, got: Walk, wanted: Walk) -> io::Result<()> {
+    report::number(rt, b"  width", got.width, wanted.width)?;
+    report::number(rt, b"  height", got.height, wanted.height)?;
+    report::number(rt, b"  pending", got.pending, wanted.pending)?;
     Ok(())
 }
 
-// The three numbers of a walk's state, beside three of the case.
-pub(crate) fn state_lines(
-    rt: &impl Print,
-    walk: Walk,
-    width: u32,
-    height: u32,
-    pending: u32,
-) -> io::Result<()> {
-    report::number(rt, b"  width", walk.width as u64, wide(width))?;
-    report::number(rt, b"  height", walk.height as u64, wide(height))?;
-    report::number(rt, b"  pending", walk.pending as u64, wide(pending))?;
-    Ok(())
-}
-
-// How many marks are 3.
-pub(crate) fn finished(marks: &[u8]) -> u64 {
-    let mut count = 0;
-    let mut i = 0;
-    while i < marks.len() {
-        if marks[i] == 3 {
-            count += 1;
-        }
-        i += 1;
-    }
-    count
+// How many pixels the walk has finished.
+pub(crate) fn finished(marks: &[u8]) -> usize {
+    marks.iter().filter(|mark| **mark == MARK_FINISHED).count()
 }

@@ -8,6 +8,7 @@ mod starts;
 mod states;
 mod walks;
 
+use cases::{Row, Text};
 use std::io;
 
 // More bytes than the file has.
@@ -16,26 +17,42 @@ const TEXT: usize = 65536;
 fn main(rt: HostRuntime) -> io::Result<()> {
     let mut text = [0u8; TEXT];
     let n = cases::read_full(&mut rt.stdin(), &mut text)?;
-    lines_of(&rt, &text[..n])
-}
-
-fn lines_of(rt: &impl Print, text: &[u8]) -> io::Result<()> {
-    let mut at = 0;
-    while at < text.len() {
-        let case = cases::case(rt, text, &mut at)?;
-        line(rt, &case)?;
+    for mut case in Text::new(&text[..n]).cases() {
+        let row = case.row(&rt)?;
+        line(&rt, &row)?;
     }
     Ok(())
 }
 
-// A line's first number says what its case is of.
-fn line(rt: &impl Print, case: &[u32; 80]) -> io::Result<()> {
-    let kind = case[0];
-    match kind {
-        1 => starts::run(rt, case),
-        2 => states::run(rt, case),
-        3 => walks::run(rt, case),
-        4 => sizes::run(rt, case),
-        _ => Ok(()),
+// What a case is of, by its line's first number.
+enum Kind {
+    Start,
+    State,
+    Walk,
+    Sizes,
+}
+
+impl TryFrom<u32> for Kind {
+    type Error = u32;
+
+    fn try_from(n: u32) -> Result<Kind, u32> {
+        match n {
+            1 => Ok(Kind::Start),
+            2 => Ok(Kind::State),
+            3 => Ok(Kind::Walk),
+            4 => Ok(Kind::Sizes),
+            _ => Err(n),
+        }
+    }
+}
+
+// A remark, a row of zeros, is of none.
+fn line(rt: &impl Print, row: &Row) -> io::Result<()> {
+    match Kind::try_from(row.number::<u32>(0)) {
+        Ok(Kind::Start) => starts::run(rt, row),
+        Ok(Kind::State) => states::run(rt, row),
+        Ok(Kind::Walk) => walks::run(rt, row),
+        Ok(Kind::Sizes) => sizes::run(rt, row),
+        Err(_) => Ok(()),
     }
 }

@@ -1,83 +1,69 @@
 // A map request and then a slice of one state, forged or not: their numbers, and all that they leave.
-use crate::kept::{bytes_line, places_line, state_lines};
-use cases::{at_most, count, wide};
-use rules::{Mapped, Sliced, Walk};
+use crate::kept;
+use cases::Row;
+use rules::{Progress, Walk, number};
 use std::io;
 
 // The case: the state's sides and what is pending, the budget, how many marks, places and entries of the map are lent, the slice's number
 // and the map's, the five marks from 10 on and the five places from 15, the slice's takes and what is pending after it, the map from 22 on,
 // and the marks from 27 and the places from 32 after the slice.
-pub(crate) fn run(rt: &impl Print, case: &[u32; 80]) -> io::Result<()> {
-    map(rt, case)?;
-    slice(rt, case)
+pub(crate) fn run(rt: &impl Print, row: &Row) -> io::Result<()> {
+    let walk = Walk {
+        width: row.number(1),
+        height: row.number(2),
+        pending: row.number(3),
+    };
+    let mut marks = [0; 5];
+    row.list(10, &mut marks);
+    let mut stack = [0; 5];
+    row.list(15, &mut stack);
+    map(rt, row, walk, &marks, &stack)?;
+    slice(rt, row, walk, marks, stack)
 }
 
-fn walk_of(case: &[u32; 80]) -> Walk {
-    Walk {
-        width: count(case[1]),
-        height: count(case[2]),
-        pending: count(case[3]),
-    }
-}
-
-fn marks_of(case: &[u32; 80]) -> [u8; 5] {
-    [
-        (case[10] % 256) as u8,
-        (case[11] % 256) as u8,
-        (case[12] % 256) as u8,
-        (case[13] % 256) as u8,
-        (case[14] % 256) as u8,
-    ]
-}
-
-fn stack_of(case: &[u32; 80]) -> [u32; 5] {
-    [case[15], case[16], case[17], case[18], case[19]]
-}
-
-fn map(rt: &impl Print, case: &[u32; 80]) -> io::Result<()> {
-    let walk = walk_of(case);
-    let m = at_most(case[5], 5);
-    let k = at_most(case[6], 5);
-    let n = at_most(case[7], 5);
-    let marks = marks_of(case);
-    let stack = stack_of(case);
-    let mut out = [91u8, 92, 93, 94, 95];
-    let asked = hysteresis::map(walk, &marks[0..m], &stack[0..k], &mut out[0..n]);
-    after_map(rt, case, asked, &out)
-}
-
-fn after_map(rt: &impl Print, case: &[u32; 80], asked: Mapped, out: &[u8; 5]) -> io::Result<()> {
-    report::number(rt, b"", asked.refusal as u64, wide(case[9]))?;
-    state_lines(rt, asked.walk, case[1], case[2], case[3])?;
-    bytes_line(rt, b"  map", out, case, 22)
-}
-
-fn slice(rt: &impl Print, case: &[u32; 80]) -> io::Result<()> {
-    let walk = walk_of(case);
-    let budget = count(case[4]);
-    let m = at_most(case[5], 5);
-    let k = at_most(case[6], 5);
-    let mut marks = marks_of(case);
-    let mut stack = stack_of(case);
-    let made = hysteresis::slice(walk, budget, &mut marks[0..m], &mut stack[0..k]);
-    after_slice(rt, case, made, &marks, &stack)
-}
-
-fn after_slice(
+fn map(
     rt: &impl Print,
-    case: &[u32; 80],
-    made: Sliced,
+    row: &Row,
+    walk: Walk,
     marks: &[u8; 5],
     stack: &[u32; 5],
 ) -> io::Result<()> {
+    let mut out = [91, 92, 93, 94, 95];
+    let asked = hysteresis::map(
+        walk,
+        &marks[..row.at_most(5, 5)],
+        &stack[..row.at_most(6, 5)],
+        &mut out[..row.at_most(7, 5)],
+    );
+    report::number(rt, b"", u32::from(number(asked)), row.number(9))?;
+    // A map answers no walk: the line stays, since the output is to stay as it is.
+    kept::state(rt, walk, walk)?;
+    kept::list(rt, b"  map", &out, row, 22)
+}
+
+fn slice(
+    rt: &impl Print,
+    row: &Row,
+    walk: Walk,
+    mut marks: [u8; 5],
+    mut stack: [u32; 5],
+) -> io::Result<()> {
+    let made = hysteresis::slice(
+        walk,
+        row.number(4),
+        &mut marks[..row.at_most(5, 5)],
+        &mut stack[..row.at_most(6, 5)],
+    );
+    let left = made.unwrap_or(Progress { takes: 0, walk });
+    let pending = row.number(21);
     report::number(
         rt,
         b"  slice of the same",
-        made.refusal as u64,
-        wide(case[8]),
+        u32::from(number(made)),
+        row.number(8),
     )?;
-    report::number(rt, b"  takes", made.takes as u64, wide(case[20]))?;
-    state_lines(rt, made.walk, case[1], case[2], case[21])?;
-    bytes_line(rt, b"  marks", marks, case, 27)?;
-    places_line(rt, b"  stack", stack, case, 32)
+    report::number(rt, b"  takes", left.takes, row.number(20))?;
+    kept::state(rt, left.walk, Walk { pending, ..walk })?;
+    kept::list(rt, b"  marks", &marks, row, 27)?;
+    kept::list(rt, b"  stack", &stack, row, 32)
 }

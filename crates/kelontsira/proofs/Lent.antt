@@ -9,42 +9,48 @@ use mir.Val.{SFits, to_z, of_z}
 use mir.ValLaws.{to_z-of_z}
 use Rattle.rules.specs.Calls.{resolve_coord}
 use Rattle.rules.specs.declared.BorderMode.{BorderMode}
-use Rattle.rules.specs.declared.Started.{Started}
-use Rattle.rules.specs.declared.Sliced.{Sliced}
-use Rattle.rules.specs.declared.Mapped.{Mapped}
-use Rattle.rules.specs.declared.Counted.{Counted}
+use Rattle.std.specs.Prelude.{Result, Ok, Err}
+use Rattle.rules.specs.declared.Walk.{Walk}
+use Rattle.rules.specs.declared.Progress.{Progress}
+use Rattle.rules.specs.declared.refusal.Refusal.{Refusal}
+use Rattle.rules.specs.Answers.{Started, Sliced, Mapped, Counted, number_of, number, start_answer, slice_answer, map_answer, run_answer}
+use Rattle.rules.proofs.Answers.{named}
 use Rattle.rules.specs.declared.Coord.{Coord}
 use Rattle.rules.specs.declared.Coord.TheVariants.{At, Nothing, Refused}
 use Rattle.rules.specs.Border.{coord_says}
-use Rattle.kelontsira.specs.Exports.{numbers_of, placed, start_says, slice_says, map_says, count_says, run_says}
+use Rattle.kelontsira.specs.Exports.{numbers_of, placed, start_says, slice_says, map_says, run_says}
 
 module _ {A : Type 0} (lent : A) where
-  module _ (old : ℕ × (ℕ × ℕ)) (s : Started) (call : Started × A) (e : (s, lent) ≡ call) where
-    pub start_refused : (s.refusal ≡ 0 → ⊥) → (s.refusal, (old, lent)) ≡ start_says old call
+  module _ (old : ℕ × (ℕ × ℕ)) (call : Started × A) where
+    pub start_told : (walk : Walk) → (start_answer (Ok walk), lent) ≡ call → (0, (numbers_of walk, lent)) ≡ start_says old call
     unfolding start_says
-    start_refused n = rw (← e, ne_eqb _ _ n)
+    start_told walk e = rw (← e)
 
-    pub start_told : s.refusal ≡ 0 → (0, (numbers_of s.walk, lent)) ≡ start_says old call
+    pub start_refused : (refusal : Refusal) (n : ℕ) → n ≡ number_of refusal → (start_answer (Err refusal), lent) ≡ call → (n, (old, lent)) ≡ start_says old call
     unfolding start_says
-    start_told z = rw (← e, z)
+    start_refused refusal n q e = rw (q, ← e, ne_eqb _ _ (named refusal))
 
-  module _ (taken : ℕ) (old : ℕ × (ℕ × ℕ)) (s : Sliced) (call : Sliced × A) (e : (s, lent) ≡ call) where
-    pub slice_refused : (s.refusal ≡ 0 → ⊥) → (s.refusal, ((taken, old), lent)) ≡ slice_says taken old call
+  module _ (w : Walk) (taken : ℕ) (old : ℕ × (ℕ × ℕ)) (call : Sliced × A) where
+    pub slice_told : (made : Progress) → (slice_answer w (Ok made), lent) ≡ call → (0, ((made.takes, numbers_of made.walk), lent)) ≡ slice_says taken old call
     unfolding slice_says
-    slice_refused n = rw (← e, ne_eqb _ _ n)
+    slice_told made e = rw (← e)
 
-    pub slice_told : s.refusal ≡ 0 → (0, ((s.takes, numbers_of s.walk), lent)) ≡ slice_says taken old call
+    pub slice_refused : (refusal : Refusal) (n : ℕ) → n ≡ number_of refusal → (slice_answer w (Err refusal), lent) ≡ call → (n, ((taken, old), lent)) ≡ slice_says taken old call
     unfolding slice_says
-    slice_told z = rw (← e, z)
+    slice_refused refusal n q e = rw (q, ← e, ne_eqb _ _ (named refusal))
 
-  module _ (old : ℕ) (r : Counted) (call : Counted × A) (e : (r, lent) ≡ call) where
-    pub run_told : (n k : ℕ) → (n, k) ≡ count_says old r → (n, (k, lent)) ≡ run_says old call
-    unfolding run_says
-    run_told n k t = ap (λ (p : ℕ × ℕ). (p.0, (p.1, lent))) t ∙ ap (run_says old) e
-
-  pub map_told : (m : Mapped) (call : Mapped × A) → (m, lent) ≡ call → (m.refusal, lent) ≡ map_says call
+  pub map_told : (w : Walk) (answer : Result Unit Refusal) (call : Mapped × A) (n : ℕ) → n ≡ number answer → (map_answer w answer, lent) ≡ call → (n, lent) ≡ map_says call
   unfolding map_says
-  map_told m call e = ap map_says e
+  map_told w answer call n q e = rw (q, ← e)
+
+  module _ (old : ℕ) (call : Counted × A) where
+    pub run_told : (edges : ℕ) → (run_answer (Ok edges), lent) ≡ call → (0, (edges, lent)) ≡ run_says old call
+    unfolding run_says
+    run_told edges e = rw (← e)
+
+    pub run_refused : (refusal : Refusal) (n : ℕ) → n ≡ number_of refusal → (run_answer (Err refusal), lent) ≡ call → (n, (old, lent)) ≡ run_says old call
+    unfolding run_says
+    run_refused refusal n q e = rw (q, ← e, ne_eqb _ _ (named refusal))
 
 -- the resolver's answer, a case v of which was met
 pub case_of : (z : ℤ) (side : ℕ) (mode : BorderMode) (r v : Coord) → SFits w64 z → coord_says r ≡ resolve_coord (to_z w64 (of_z w64 z)) side mode → r ≡ v
@@ -60,6 +66,6 @@ module _ (side old : ℕ) (call : ℕ × Option ℕ) where
   unfolding placed
   nothing_told e = ap (placed side old) e
 
-  pub coord_refused : coord_says Refused ≡ call → (1, old) ≡ placed side old call
+  pub coord_refused : (n : ℕ) → n ≡ 1 → coord_says Refused ≡ call → (n, old) ≡ placed side old call
   unfolding placed
-  coord_refused e = ap (placed side old) e
+  coord_refused n q e = rw q (ap (placed side old) e)

@@ -11,6 +11,7 @@ module _ {A : Type 0} (border : ℕ) (kept : A) (call : BorderMode → ℕ × A)
   unfolding bordered
   unknown u = rw (lt-ltb _ _ u)
 
-  pub known : (mode : BorderMode) (left : ℕ × A) → border ≤ 2 → mode ≡ mode_of border → left ≡ call mode → left ≡ bordered border kept call
+  -- n is the number of the answer, which the call says
+  pub known : (mode : BorderMode) (n m : ℕ) (left : A) → (border ≤ 2) × (mode ≡ mode_of border) → n ≡ m → (m, left) ≡ call mode → (n, left) ≡ bordered border kept call
   unfolding bordered
-  known mode left k m e = e ∙ ap call m ∙ rw (le-ltb _ _ k)
+  known mode n m left k q e = rw (le-ltb _ _ k.0) (rw q e ∙ ap call k.1)

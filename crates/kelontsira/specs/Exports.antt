@@ -8,10 +8,7 @@ use Rattle.rules.specs.declared.Kernel.{Kernel}
 use Rattle.rules.specs.declared.SeparableKernel.{SeparableKernel}
 use Rattle.rules.specs.declared.Thresholds.{Thresholds}
 use Rattle.rules.specs.declared.Walk.{Walk}
-use Rattle.rules.specs.declared.Started.{Started}
-use Rattle.rules.specs.declared.Sliced.{Sliced}
-use Rattle.rules.specs.declared.Mapped.{Mapped}
-use Rattle.rules.specs.declared.Counted.{Counted}
+use Rattle.rules.specs.Answers.{Started, Sliced, Mapped, Counted}
 use Rattle.rules.specs.declared.BorderMode.{BorderMode}
 use Rattle.rules.specs.Border.{mode_of}
 

@@ -1,10 +1,11 @@
-// The filters for C: resolver, kernels, blurs, sharpen, median and Sobel's bytes.
+// The filters for C: resolver, kernels, blurs, sharpen, median and Sobel's bytes. Sharpen and Sobel stay two functions, alike but for the
+// filter, since C calls each by its name.
 ghost use Rattle.std.specs.Prelude.{◌≡◌};
 ghost use Rattle.rules.specs.Calls as Calls;
 ghost use Rattle.rules.specs.Root.{sobel_byte};
 ghost use Rattle.kelontsira.specs.Exports.{sides, kernel_of, taps_of, bordered, placed};
 
-use crate::numbers::{LAST_MODE, REFUSED_BORDER};
+use crate::numbers::{ACCEPTED, REFUSED_BORDER, mode_by};
 use filters::box_blur::BoxBlurFilter;
 use filters::convolution::{apply_kernel, apply_separable_kernel, resolve_coord};
 use filters::gaussian::gaussian_blur;
@@ -12,27 +13,21 @@ use filters::sharpen::SharpenFilter;
 use gradient::sobel::SobelFilter;
 use median::MedianFilter;
 use pixel::byte::sobel_byte;
-use rules::codes::mode_of;
-use rules::{ACCEPTED, Coord, Kernel, REFUSED_SIDE, SeparableKernel, Size};
+use rules::{Coord, Kernel, Refusal, SeparableKernel, Size, number};
 
 pub fn kelontsira_resolve_coord(coord: i64, side: usize, border: u8, place: &mut usize) -> u8
     ensures { (result, place.new)
         ≡ bordered border place.old (λ b. placed side place.old (Calls.resolve_coord coord side b)) }
 {
-    if LAST_MODE < border {
+    let Some(mode) = mode_by(border) else {
         return REFUSED_BORDER;
-    }
-    match resolve_coord(coord, side, mode_of(border)) {
-        Coord::At(i) => {
-            *place = i;
-            ACCEPTED
-        }
-        Coord::Nothing => {
-            *place = side;
-            ACCEPTED
-        }
-        Coord::Refused => REFUSED_SIDE,
-    }
+    };
+    *place = match resolve_coord(coord, side, mode) {
+        Coord::At(i) => i,
+        Coord::Nothing => side,
+        Coord::Refused => return u8::from(Refusal::Side),
+    };
+    ACCEPTED
 }
 
 pub fn kelontsira_apply_kernel(
@@ -49,21 +44,15 @@ pub fn kelontsira_apply_kernel(
         ≡ bordered border out.old
         (λ b. Calls.apply_kernel (sides width height) (kernel_of columns rows) b pixels.now weights.now out.old) }
 {
-    if LAST_MODE < border {
+    let Some(mode) = mode_by(border) else {
         return REFUSED_BORDER;
-    }
+    };
     let kernel = Kernel {
         width: columns,
         height: rows,
     };
-    apply_kernel(
-        pixels,
-        Size { width, height },
-        kernel,
-        weights,
-        mode_of(border),
-        out,
-    )
+    let size = Size { width, height };
+    number(apply_kernel(pixels, size, kernel, weights, mode, out))
 }
 
 pub fn kelontsira_apply_separable_kernel(
@@ -83,23 +72,15 @@ pub fn kelontsira_apply_separable_kernel(
         (λ b. Calls.apply_separable_kernel (sides width height) (taps_of across down) b pixels.now horizontal.now
         vertical.now work.old out.old) }
 {
-    if LAST_MODE < border {
+    let Some(mode) = mode_by(border) else {
         return REFUSED_BORDER;
-    }
+    };
     let kernel = SeparableKernel {
         horizontal: across,
         vertical: down,
     };
-    apply_separable_kernel(
-        pixels,
-        Size { width, height },
-        kernel,
-        horizontal,
-        vertical,
-        mode_of(border),
-        work,
-        out,
-    )
+    let size = Size { width, height };
+    number(apply_separable_kernel(pixels, size, kernel, horizontal, vertical, mode, work, out))
 }
 
 pub fn kelontsira_gaussian_blur(
@@ -115,17 +96,11 @@ pub fn kelontsira_gaussian_blur(
         ≡ bordered border (work.old, out.old)
         (λ b. Calls.gaussian_blur (sides width height) b pixels.now taps.now work.old out.old) }
 {
-    if LAST_MODE < border {
+    let Some(mode) = mode_by(border) else {
         return REFUSED_BORDER;
-    }
-    gaussian_blur(
-        pixels,
-        Size { width, height },
-        taps,
-        mode_of(border),
-        work,
-        out,
-    )
+    };
+    let size = Size { width, height };
+    number(gaussian_blur(pixels, size, taps, mode, work, out))
 }
 
 pub fn kelontsira_box_blur(
@@ -140,13 +115,11 @@ pub fn kelontsira_box_blur(
         ≡ bordered border (work.old, out.old)
         (λ b. Calls.box_blur (sides width height) b pixels.now work.old out.old) }
 {
-    if LAST_MODE < border {
+    let Some(mode) = mode_by(border) else {
         return REFUSED_BORDER;
-    }
-    let filter = BoxBlurFilter {
-        border: mode_of(border),
     };
-    filter.apply(pixels, Size { width, height }, work, out)
+    let filter = BoxBlurFilter { border: mode };
+    number(filter.apply(pixels, Size { width, height }, work, out))
 }
 
 pub fn kelontsira_sharpen(
@@ -159,13 +132,11 @@ pub fn kelontsira_sharpen(
     ensures { (result, out.new)
         ≡ bordered border out.old (λ b. Calls.sharpen (sides width height) b pixels.now out.old) }
 {
-    if LAST_MODE < border {
+    let Some(mode) = mode_by(border) else {
         return REFUSED_BORDER;
-    }
-    let filter = SharpenFilter {
-        border: mode_of(border),
     };
-    filter.apply(pixels, Size { width, height }, out)
+    let filter = SharpenFilter { border: mode };
+    number(filter.apply(pixels, Size { width, height }, out))
 }
 
 pub fn kelontsira_median(
@@ -179,14 +150,14 @@ pub fn kelontsira_median(
     ensures { (result, out.new)
         ≡ bordered border out.old (λ b. Calls.median (sides width height) window b pixels.now out.old) }
 {
-    if LAST_MODE < border {
+    let Some(mode) = mode_by(border) else {
         return REFUSED_BORDER;
-    }
+    };
     let filter = MedianFilter {
         size: window,
-        border: mode_of(border),
+        border: mode,
     };
-    filter.apply(pixels, Size { width, height }, out)
+    number(filter.apply(pixels, Size { width, height }, out))
 }
 
 pub fn kelontsira_sobel(
@@ -199,13 +170,11 @@ pub fn kelontsira_sobel(
     ensures { (result, out.new)
         ≡ bordered border out.old (λ b. Calls.sobel (sides width height) b pixels.now out.old) }
 {
-    if LAST_MODE < border {
+    let Some(mode) = mode_by(border) else {
         return REFUSED_BORDER;
-    }
-    let filter = SobelFilter {
-        border: mode_of(border),
     };
-    filter.apply(pixels, Size { width, height }, out)
+    let filter = SobelFilter { border: mode };
+    number(filter.apply(pixels, Size { width, height }, out))
 }
 
 pub fn kelontsira_sobel_byte(s: u32) -> u8

@@ -5,14 +5,13 @@ ghost use Rattle.rules.specs.Root.{magnitude_of};
 ghost use Rattle.rules.specs.Sector.{sector_of};
 ghost use Rattle.kelontsira.specs.Exports.{sides, bordered};
 
-use crate::numbers::{LAST_MODE, REFUSED_BORDER};
+use crate::numbers::{REFUSED_BORDER, mode_by};
 use gradient::components::sobel_gradients;
 use gradient::magnitude::gradient_magnitude;
 use gradient::suppression::non_maximum_suppression;
 use pixel::root::magnitude_of;
 use pixel::sector::sector;
-use rules::Size;
-use rules::codes::mode_of;
+use rules::{Size, number};
 
 pub fn kelontsira_sobel_gradients(
     pixels: &[u8],
@@ -26,10 +25,10 @@ pub fn kelontsira_sobel_gradients(
         ≡ bordered border (gx.old, gy.old)
         (λ b. Calls.sobel_gradients (sides width height) b pixels.now gx.old gy.old) }
 {
-    if LAST_MODE < border {
+    let Some(mode) = mode_by(border) else {
         return REFUSED_BORDER;
-    }
-    sobel_gradients(pixels, Size { width, height }, mode_of(border), gx, gy)
+    };
+    number(sobel_gradients(pixels, Size { width, height }, mode, gx, gy))
 }
 
 pub fn kelontsira_sector(gx: i16, gy: i16) -> u8
@@ -54,7 +53,7 @@ pub fn kelontsira_gradient_magnitude(
     ensures { (result, magnitude.new)
         ≡ Calls.gradient_magnitude (sides width height) gx.now gy.now magnitude.old }
 {
-    gradient_magnitude(gx, gy, Size { width, height }, magnitude)
+    number(gradient_magnitude(gx, gy, Size { width, height }, magnitude))
 }
 
 pub fn kelontsira_non_maximum_suppression(
@@ -68,5 +67,5 @@ pub fn kelontsira_non_maximum_suppression(
     ensures { (result, out.new)
         ≡ Calls.non_maximum_suppression (sides width height) magnitude.now gx.now gy.now out.old }
 {
-    non_maximum_suppression(magnitude, gx, gy, Size { width, height }, out)
+    number(non_maximum_suppression(magnitude, gx, gy, Size { width, height }, out))
 }

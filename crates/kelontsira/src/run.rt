@@ -2,21 +2,11 @@
 ghost use Rattle.std.specs.Prelude.{◌≡◌};
 ghost use Rattle.rules.specs.Run as Run;
 ghost use Rattle.rules.specs.Refusals.{scratch};
-ghost use Rattle.kelontsira.specs.Exports.{sides, between, count_says, run_says};
+ghost use Rattle.kelontsira.specs.Exports.{sides, between, run_says};
 
+use crate::numbers::ACCEPTED;
 use canny::canny;
-use rules::{ACCEPTED, Counted, Size, Thresholds};
-
-// The count through a lent number, which a refusal leaves.
-fn tell(counted: Counted, count: &mut usize) -> u8
-    ensures { (result, count.new) ≡ count_says count.old counted }
-{
-    if counted.refusal != ACCEPTED {
-        return counted.refusal;
-    }
-    *count = counted.count;
-    ACCEPTED
-}
+use rules::{Size, Thresholds};
 
 pub fn kelontsira_canny(
     pixels: &[u8],
@@ -41,19 +31,15 @@ pub fn kelontsira_canny(
         (scratch work.old magnitude.old gx.old gy.old blurred.old marks.old stack.old)
         map.old) }
 {
-    let counted = canny(
-        pixels,
-        Size { width, height },
-        taps,
-        Thresholds { low, high },
-        work,
-        magnitude,
-        gx,
-        gy,
-        blurred,
-        marks,
-        stack,
-        map,
-    );
-    tell(counted, count)
+    let size = Size { width, height };
+    let thresholds = Thresholds { low, high };
+    match canny(
+        pixels, size, taps, thresholds, work, magnitude, gx, gy, blurred, marks, stack, map,
+    ) {
+        Ok(edges) => {
+            *count = edges;
+            ACCEPTED
+        }
+        Err(refusal) => u8::from(refusal),
+    }
 }

@@ -3,8 +3,9 @@ ghost use Rattle.std.specs.Prelude.{◌≡◌};
 ghost use Rattle.rules.specs.Calls as Calls;
 ghost use Rattle.kelontsira.specs.Exports.{sides, between, walk_of, start_says, slice_says, map_says};
 
+use crate::numbers::ACCEPTED;
 use hysteresis::{map, slice, start};
-use rules::{ACCEPTED, Size, Thresholds, Walk};
+use rules::{Size, Thresholds, Walk, number};
 
 pub fn kelontsira_start(
     magnitudes: &[f32],
@@ -22,20 +23,14 @@ pub fn kelontsira_start(
         ≡ start_says (wide.old, (tall.old, pending.old))
         (Calls.start (sides width height) (between low high) magnitudes.now marks.old stack.old) }
 {
-    let started = start(
-        magnitudes,
-        Size { width, height },
-        Thresholds { low, high },
-        marks,
-        stack,
-    );
-    if started.refusal != ACCEPTED {
-        return started.refusal;
+    let size = Size { width, height };
+    match start(magnitudes, size, Thresholds { low, high }, marks, stack) {
+        Ok(walk) => {
+            (*wide, *tall, *pending) = (walk.width, walk.height, walk.pending);
+            ACCEPTED
+        }
+        Err(refusal) => u8::from(refusal),
     }
-    *wide = started.walk.width;
-    *tall = started.walk.height;
-    *pending = started.walk.pending;
-    ACCEPTED
 }
 
 pub fn kelontsira_slice(
@@ -56,15 +51,14 @@ pub fn kelontsira_slice(
         height: *tall,
         pending: *pending,
     };
-    let sliced = slice(walk, budget, marks, stack);
-    if sliced.refusal != ACCEPTED {
-        return sliced.refusal;
+    match slice(walk, budget, marks, stack) {
+        Ok(made) => {
+            *takes = made.takes;
+            (*wide, *tall, *pending) = (made.walk.width, made.walk.height, made.walk.pending);
+            ACCEPTED
+        }
+        Err(refusal) => u8::from(refusal),
     }
-    *takes = sliced.takes;
-    *wide = sliced.walk.width;
-    *tall = sliced.walk.height;
-    *pending = sliced.walk.pending;
-    ACCEPTED
 }
 
 pub fn kelontsira_map(
@@ -81,8 +75,7 @@ pub fn kelontsira_map(
     let walk = Walk {
         width: wide,
         height: tall,
-        pending: pending,
+        pending,
     };
-    let mapped = map(walk, marks, stack, out);
-    mapped.refusal
+    number(map(walk, marks, stack, out))
 }

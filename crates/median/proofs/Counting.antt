@@ -10,6 +10,7 @@ use native.Mathlib.Numerals.{add-one}
 use native.Mathlib.Omega.{arith}
 use borrow.Author.Tests.{eq-eqb, ne_eqb, eqb-true}
 use lib.Dec.{ltb, eqb}
+use mir.Val.{bool_byte}
 use lib.ListN.{length, get_or, set, length-set}
 use Rattle.rules.specs.Picture.{bit, tally, tabulate}
 use Rattle.rules.specs.Median.{occurrences}
@@ -139,10 +140,15 @@ changing_more {g} {j = j} {b} {l = l} h p q = record { within = omega arith; sam
 pub changing_all : {g f : ℕ → ℕ} {m j : ℕ} {o l : List ℕ} → Changing g f m j o l → m ≤ j → j ≡ m
 changing_all p h = omega (arith, p.within)
 
+-- a test as the code counts it
+bit_is : (t : Bool) → bool_byte t ≡ bit t
+bit_is true = refl
+bit_is false = refl
+
 module _ (f : ℕ → ℕ) {j b : ℕ} (q : b ≡ f j) where
-  pub belows_more : (value : ℕ) → belows f (j + 1) value ≡ belows f j value + bit (ltb b value)
+  pub belows_more : (value : ℕ) → belows f (j + 1) value ≡ belows f j value + bool_byte (ltb b value)
   unfolding tally
-  belows_more value = rw (add-one j, q)
+  belows_more value = rw (add-one j, q, bit_is (ltb (f j) value))
 
   equals_next : equals f (j + 1) b ≡ equals f j b + 1
   unfolding tally

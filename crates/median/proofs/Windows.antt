@@ -112,17 +112,19 @@ module _ {pixels : List ℕ} {d : Size} {mode : BorderMode} {rows : List ℕ} wh
       pub less_counts : Counts m max_side
       less_counts = counts_of r (omega arith) less
 
-      pub moved : {o : List ℕ} {n b : ℕ} → n ≡ below - belows (column_at pixels d rows left) (length rows) value
-          → (o ≡ put_all m (column_at pixels d rows right) (length rows)) × (b ≡ n + belows (column_at pixels d rows right) (length rows) value)
-          → Holds pixels d mode rows (x + 1) (length rows) o × Middle o value b
-      moved f g =
+      pub moved : {o : List ℕ} {n b u v : ℕ} → (u ≡ value) × (n ≡ below - belows (column_at pixels d rows left) (length rows) value)
+          → (o ≡ put_all m (column_at pixels d rows right) (length rows)) × (v ≡ u) × (b ≡ n + belows (column_at pixels d rows right) (length rows) u)
+          → Holds pixels d mode rows (x + 1) (length rows) o × Middle o v b
+      moved {b = b} f g =
           let z : length rows - 1 + 1 ≡ length rows = omega (arith, r.some) in
           let y : x + length rows ≡ x + 1 + (length rows - 1) = omega (arith, r.some) in
+          let same = g.1 ∙ f.0 in
+          let q = rw f.0 at g.2 in
           let u = first_below in
           let w = put_below (column_at pixels d rows right) m (column_in byte less right) (length rows) value in
           let s = ap (λ (t : List ℕ). counted_below t value) h in
           let k = put_holds byte less (qr ∙ ap (column_place d (length rows) mode) y) g.0 in
-          (rw z at k, record { byte = e.byte; lower = rw g.0 (omega (arith, e.lower, g.1)) })
+          (rw z at k, rw same (record { byte = e.byte; lower = rw g.0 (omega (arith, e.lower, f.1, q)) }))
 
   -- ---- the median that the counts select
 
@@ -170,11 +172,11 @@ module _ {pixels : List ℕ} {d : Size} {mode : BorderMode} {rows : List ℕ} wh
 -- ---- the places of a window's rows, lent as a part of what `place_rows` filled
 
 module _ (d : Size) (mode : BorderMode) (window y : ℕ) (l : List ℕ) {r : List ℕ} (e : r ≡ filled window (row_place d window mode y) l) where
-  part_is : take (window - 0) r ≡ tabulate window (row_place d window mode y)
-  part_is = let z : window - 0 ≡ window = omega arith in rw z (take_filled window (row_place d window mode y) l r e)
+  part_is : take window r ≡ tabulate window (row_place d window mode y)
+  part_is = take_filled window (row_place d window mode y) l r e
 
-  pub part_count : length (take (window - 0) r) ≡ window
+  pub part_count : length (take window r) ≡ window
   part_count = ap length part_is ∙ length_tabulate window (row_place d window mode y)
 
-  pub part_about : y < d.height → About d mode y (take (window - 0) r)
+  pub part_about : y < d.height → About d mode y (take window r)
   part_about h = record { row = h; each = λ j k. rw (part_count, part_is) (get_d_tabulate window (row_place d window mode y) 0 j (rw part_count at k)) }

@@ -1,11 +1,13 @@
 // The median of a square window, by counts of the 256 byte values that move along a row: one column out, one in.
 #![tactic(auto)]
 
-ghost use Rattle.std.specs.Prelude.{◌≡◌, ◌+◌, ◌-◌, ◌*◌, ◌/◌, ◌≤◌, ◌<◌, ltb, length};
+ghost use Rattle.std.specs.Prelude.{ℕ, slice_index, ◌≡◌, ◌+◌, ◌-◌, ◌*◌, ◌/◌, ◌≤◌, ◌<◌, ltb, length};
 ghost use Rattle.rules.specs.Limits.{max_side, max_window};
 ghost use Rattle.rules.specs.Picture.{area, bit, filled};
 ghost use Rattle.rules.specs.Median.{default_window};
+ghost use Rattle.rules.specs.Answers.{number};
 ghost use Rattle.rules.specs.Calls.{median};
+ghost use Rattle.rules.specs.declared.BorderMode.TheVariants.{Clamp};
 ghost use Rattle.border.specs.Lent.{written_row};
 ghost use Rattle.refusals.specs.Rows.{Picture};
 ghost use Rattle.median.specs.Counts.{median_of, row_place, column_place, column_at, belows, counted_below, put_all, take_all, Counts, Counted, Middle, Selected, Holds, Rows, About};
@@ -13,116 +15,141 @@ ghost use Rattle.median.specs.Counts.{median_of, row_place, column_place, column
 use border::coord::place;
 use border::picture::read;
 use refusals::filter::of_median;
-use rules::{ACCEPTED, BorderMode, MAX_WINDOW, Size};
+use rules::{BorderMode, MAX_WINDOW, Refusal, Size};
 
-// ---- Where the window's rows and columns are read.
+// ---- The window of a row.
 
-// Where each row of the window about row y is read.
-fn place_rows(size: Size, border: BorderMode, window: usize, y: usize, rows: &mut [usize])
-    requires { (y < size.height) × (size.height ≤ max_side) × (window ≤ max_window) × (window ≤ length rows.old) }
-    ensures { rows.new ≡ filled window (row_place size window border y) rows.old }
-{
-    let mut j = 0;
-    while j < window {
-        rows[j] = place((y + j) as u32, (window / 2) as u32, size.height, border);
-        j += 1;
-    }
-}
-
-// Where column c is read, counted from the left-hand column of the window about column 0.
-fn place_column(size: Size, border: BorderMode, window: usize, c: usize) -> usize
-    requires { (c < 2 * max_side) × (window ≤ max_window) }
-    ensures { result ≡ column_place size window border c }
-{
-    place(c as u32, (window / 2) as u32, size.width, border)
-}
-
-// ---- The counts.
-
-fn one_more(n: usize, b: usize, value: usize) -> usize
-    requires { n ≤ max_side }
-    ensures { result ≡ n + bit (ltb b value) }
-{
-    if b < value { n + 1 } else { n }
-}
-
-fn one_less(n: usize, b: usize, value: usize) -> usize
-    requires { bit (ltb b value) ≤ n }
-    ensures { result ≡ n - bit (ltb b value) }
-{
-    if b < value { n - 1 } else { n }
-}
-
-// A column in. `below` counted bytes were below `value`; what returns are now.
-fn put_column(
-    pixels: &[u8],
+// The picture, how it is read outside itself, and where the rows of the window are read, which has as many columns.
+#[derive(Clone, Copy)]
+struct Window<'a> {
+    pixels: &'a [u8],
     size: Size,
-    rows: &[usize],
-    x: usize,
-    value: usize,
-    below: usize,
-    counts: &mut [u16],
-) -> usize
-    requires { Counts counts.old max_side
-        × (length rows.now ≤ max_window)
-        × (below + max_window ≤ max_side) }
-    ensures { (counts.new ≡ put_all counts.old (column_at pixels.now size rows.now x) (length rows.now))
-        × (result ≡ below + belows (column_at pixels.now size rows.now x) (length rows.now) value) }
-{
-    let mut n = below;
-    let mut j = 0;
-    while j < rows.len() {
-        let b = read(pixels, size, x, rows[j]) as usize;
-        counts[b] = counts[b] + 1;
-        n = one_more(n, b, value);
-        j += 1;
-    }
-    n
-}
-
-// A column out.
-fn take_column(
-    pixels: &[u8],
-    size: Size,
-    rows: &[usize],
-    x: usize,
-    value: usize,
-    below: usize,
-    counts: &mut [u16],
-) -> usize
-    requires { Counts counts.old max_side
-        × Counted counts.old (column_at pixels.now size rows.now x) (length rows.now) value below }
-    ensures { (counts.new ≡ take_all counts.old (column_at pixels.now size rows.now x) (length rows.now))
-        × (result ≡ below - belows (column_at pixels.now size rows.now x) (length rows.now) value) }
-{
-    let mut n = below;
-    let mut j = 0;
-    while j < rows.len() {
-        let b = read(pixels, size, x, rows[j]) as usize;
-        counts[b] = counts[b] - 1;
-        n = one_less(n, b, value);
-        j += 1;
-    }
-    n
+    border: BorderMode,
+    rows: &'a [usize],
+    ghost fits: { Rows size pixels.now rows.now },
+    ghost bytes: { (i : ℕ) → slice_index pixels.now i < 256 },
 }
 
 // A value, and how many counted bytes are below it.
-#[derive(Drop)]
+#[derive(Clone, Copy)]
 struct Found {
     value: usize,
     below: usize,
 }
 
-// The value of item `item` of the counted bytes in order, sought from any value on: down, then up.
-fn select(counts: &[u16], item: usize, value: usize, below: usize) -> Found
+impl Window<'_> {
+    // Where column c is read, counted from the left-hand column of the window about column 0.
+    fn place_column(&self, c: usize) -> usize
+        requires { c < 2 * max_side }
+        ensures { result ≡ column_place self.now.size (length self.now.rows.now) self.now.border c }
+    {
+        place(
+            c as u32,
+            (self.rows.len() / 2) as u32,
+            self.size.width,
+            self.border,
+        )
+    }
+
+    // A column in: its bytes are counted, and those below the value besides. The counts are lent beside what was found, since a column changes
+    // both and `select` only reads the first. What the loop reads is in variables, so that its test of the
+    // column is made once.
+    fn put_column(&self, x: usize, found: Found, counts: &mut [u16]) -> Found
+        requires { Counts counts.old max_side × (found.below + max_window ≤ max_side) }
+        ensures { (counts.new ≡ put_all counts.old (column_at self.now.pixels.now self.now.size self.now.rows.now x) (length self.now.rows.now))
+            × (result.value ≡ found.value)
+            × (result.below ≡ found.below + belows (column_at self.now.pixels.now self.now.size self.now.rows.now x) (length self.now.rows.now) found.value) }
+    {
+        let value = found.value;
+        let mut below = found.below;
+        let pixels = self.pixels;
+        let size = self.size;
+        let rows = self.rows;
+        for row in rows {
+            let b = read(pixels, size, x, *row) as usize;
+            counts[b] += 1;
+            below += usize::from(b < value);
+        }
+        Found { value, below }
+    }
+
+    // A column out. Beside `put_column` since each asks for what the other does not, room above or a column that is counted: one function of
+    // both would hold both bodies in an `if`, and both contracts under conditions.
+    fn take_column(&self, x: usize, found: Found, counts: &mut [u16]) -> Found
+        requires { Counts counts.old max_side
+            × Counted counts.old (column_at self.now.pixels.now self.now.size self.now.rows.now x) (length self.now.rows.now) found.value found.below }
+        ensures { (counts.new ≡ take_all counts.old (column_at self.now.pixels.now self.now.size self.now.rows.now x) (length self.now.rows.now))
+            × (result.value ≡ found.value)
+            × (result.below ≡ found.below - belows (column_at self.now.pixels.now self.now.size self.now.rows.now x) (length self.now.rows.now) found.value) }
+    {
+        let value = found.value;
+        let mut below = found.below;
+        let pixels = self.pixels;
+        let size = self.size;
+        let rows = self.rows;
+        for row in rows {
+            let b = read(pixels, size, x, *row) as usize;
+            counts[b] -= 1;
+            below -= usize::from(b < value);
+        }
+        Found { value, below }
+    }
+
+    // The counts of the window about column 0.
+    fn first_window(&self, counts: &mut [u16])
+        requires { Holds self.now.pixels.now self.now.size self.now.border self.now.rows.now 0 0 counts.old }
+        ensures { Holds self.now.pixels.now self.now.size self.now.border self.now.rows.now 0 (length self.now.rows.now) counts.new }
+    {
+        for c in 0..self.rows.len() {
+            let x = self.place_column(c);
+            self.put_column(x, Found { value: 0, below: 0 }, counts);
+        }
+    }
+
+    // From the window about column x to the next one's: one column out and one in.
+    fn move_window(&self, x: usize, found: Found, counts: &mut [u16]) -> Found
+        requires { (x < self.now.size.width)
+            × Holds self.now.pixels.now self.now.size self.now.border self.now.rows.now x (length self.now.rows.now) counts.old
+            × Middle counts.old found.value found.below
+            × (found.below ≤ max_window * max_window) }
+        ensures { Holds self.now.pixels.now self.now.size self.now.border self.now.rows.now (x + 1) (length self.now.rows.now) counts.new
+            × Middle counts.new result.value result.below }
+    {
+        let left = self.place_column(x);
+        let right = self.place_column(x + self.rows.len());
+        let left_out = self.take_column(left, found, counts);
+        self.put_column(right, left_out, counts)
+    }
+
+    // The medians of row y, about which the window's rows are.
+    fn slide(&self, y: usize, out: &mut [u8])
+        requires { About self.now.size self.now.border y self.now.rows.now × (area self.now.size ≤ length out.old) }
+        ensures { out.new
+            ≡ written_row self.now.size y (median_of self.now.size (length self.now.rows.now) self.now.border self.now.pixels.now) out.old }
+    {
+        let mut counts = [0u16; 256];
+        self.first_window(&mut counts);
+        let item = self.rows.len() * self.rows.len() / 2;
+        let a = y * self.size.width;
+        let mut found = Found { value: 0, below: 0 };
+        for x in 0..self.size.width {
+            found = select(&counts, item, found);
+            out[a + x] = found.value as u8;
+            found = self.move_window(x, found, &mut counts);
+        }
+    }
+}
+
+// The value of item `item` of the counted bytes in order, sought from any value on: down, then up, with no end known beforehand.
+fn select(counts: &[u16], item: usize, found: Found) -> Found
     requires { Counts counts.now max_side
-        × Middle counts.now value below
+        × Middle counts.now found.value found.below
         × (item < counted_below counts.now 256)
         × (item ≤ max_side) }
     ensures { Selected counts.now item result.value result.below }
 {
-    let mut v = value;
-    let mut n = below;
+    let mut v = found.value;
+    let mut n = found.below;
     while item < n {
         v -= 1;
         n -= counts[v] as usize;
@@ -134,67 +161,15 @@ fn select(counts: &[u16], item: usize, value: usize, below: usize) -> Found
     Found { value: v, below: n }
 }
 
-// ---- A row: the counts of its first window, then one column out and one in for each pixel.
+// ---- The rows.
 
-fn first_window(pixels: &[u8], size: Size, border: BorderMode, rows: &[usize], counts: &mut [u16])
-    requires { Rows size pixels.now rows.now × Holds pixels.now size border rows.now 0 0 counts.old }
-    ensures { Holds pixels.now size border rows.now 0 (length rows.now) counts.new }
+// Where each row of the window about row y is read.
+fn place_rows(size: Size, border: BorderMode, window: usize, y: usize, rows: &mut [usize])
+    requires { (y < size.height) × (size.height ≤ max_side) × (window ≤ max_window) × (window ≤ length rows.old) }
+    ensures { rows.new ≡ filled window (row_place size window border y) rows.old }
 {
-    let mut c = 0;
-    while c < rows.len() {
-        let x = place_column(size, border, rows.len(), c);
-        put_column(pixels, size, rows, x, 0, 0, counts);
-        c += 1;
-    }
-}
-
-// From the window about column x to the next one's.
-fn move_window(
-    pixels: &[u8],
-    size: Size,
-    border: BorderMode,
-    rows: &[usize],
-    x: usize,
-    found: Found,
-    counts: &mut [u16],
-) -> usize
-    requires { Rows size pixels.now rows.now
-        × (x < size.width)
-        × Holds pixels.now size border rows.now x (length rows.now) counts.old
-        × Middle counts.old found.value found.below
-        × (found.below ≤ max_window * max_window) }
-    ensures { Holds pixels.now size border rows.now (x + 1) (length rows.now) counts.new
-        × Middle counts.new found.value result }
-{
-    let value = found.value;
-    let k = rows.len();
-    let left = place_column(size, border, k, x);
-    let right = place_column(size, border, k, x + k);
-    let n = take_column(pixels, size, rows, left, value, found.below, counts);
-    put_column(pixels, size, rows, right, value, n, counts)
-}
-
-// The medians of row y, whose window's rows are read at the places `rows`.
-fn slide(pixels: &[u8], size: Size, border: BorderMode, rows: &[usize], y: usize, out: &mut [u8])
-    requires { Rows size pixels.now rows.now
-        × About size border y rows.now
-        × (area size ≤ length out.old) }
-    ensures { out.new
-        ≡ written_row size y (median_of size (length rows.now) border pixels.now) out.old }
-{
-    let mut counts = [0u16; 256];
-    first_window(pixels, size, border, rows, &mut counts);
-    let item = rows.len() * rows.len() / 2;
-    let a = y * size.width;
-    let mut value = 0;
-    let mut below = 0;
-    let mut x = 0;
-    while x < size.width {
-        let found = select(&counts, item, value, below);
-        value = found.value;
-        out[a + x] = value as u8;
-        below = move_window(pixels, size, border, rows, x, found, &mut counts);
-        x += 1;
+    for j in 0..window {
+        rows[j] = place((y + j) as u32, (window / 2) as u32, size.height, border);
     }
 }
 
@@ -216,7 +191,13 @@ fn median_row(
 {
     let mut rows = [0usize; MAX_WINDOW];
     place_rows(size, border, window, y, &mut rows);
-    slide(pixels, size, border, &rows[0..window], y, out);
+    let about = Window {
+        pixels,
+        size,
+        border,
+        rows: &rows[..window],
+    };
+    about.slide(y, out);
 }
 
 fn median_rows(pixels: &[u8], size: Size, border: BorderMode, window: usize, out: &mut [u8])
@@ -229,15 +210,13 @@ fn median_rows(pixels: &[u8], size: Size, border: BorderMode, window: usize, out
     if size.width == 0 {
         return;
     }
-    let mut y = 0;
-    while y < size.height {
+    for y in 0..size.height {
         median_row(pixels, size, border, window, y, out);
-        y += 1;
     }
 }
 
 // The median filter: the side of its window, and how it reads outside the picture.
-#[derive(Drop)]
+#[derive(Clone, Copy)]
 pub struct MedianFilter {
     pub size: usize,
     pub border: BorderMode,
@@ -259,12 +238,6 @@ impl MedianFilter {
         MedianFilter::DEFAULT_SIZE
     }
 
-    pub fn default() -> MedianFilter
-        ensures { (result.size ≡ default_window) × (result.border ≡ BorderMode.Clamp) }
-    {
-        MedianFilter::DEFAULT
-    }
-
     pub fn new(size: usize) -> MedianFilter
         ensures { (result.size ≡ size) × (result.border ≡ BorderMode.Clamp) }
     {
@@ -278,16 +251,19 @@ impl MedianFilter {
     }
 
     // The median of each pixel's window.
-    pub fn apply(self, pixels: &[u8], size: Size, out: &mut [u8]) -> u8
-        ensures { (result, out.new) ≡ median size self.size self.border pixels.now out.old }
+    pub fn apply(self, pixels: &[u8], size: Size, out: &mut [u8]) -> Result<(), Refusal>
+        ensures { (number result, out.new) ≡ median size self.size self.border pixels.now out.old }
     {
-        let window = self.size;
-        let border = self.border;
-        let refusal = of_median(pixels, size, window, out);
-        if refusal != ACCEPTED {
-            return refusal;
-        }
-        median_rows(pixels, size, border, window, out);
-        ACCEPTED
+        of_median(pixels, size, self.size, out)?;
+        median_rows(pixels, size, self.border, self.size, out);
+        Ok(())
+    }
+}
+
+impl Default for MedianFilter {
+    ghost is_default = { λ filter. (filter.size ≡ default_window) × (filter.border ≡ Clamp) };
+
+    fn default() -> MedianFilter {
+        MedianFilter::DEFAULT
     }
 }

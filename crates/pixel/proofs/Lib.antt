@@ -1,6 +1,5 @@
--- The laws behind this crate's proofs: components and their squares, a byte halved or tested, a guessed root tested or mended, the sector.
+-- The laws behind this crate's proofs: components, a byte found or tested, a guessed root tested or mended, the sector.
 pub mod Weighing
-pub mod Squares
 pub mod Halving
 pub mod Ends
 pub mod Bits

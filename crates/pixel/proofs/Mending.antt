@@ -1,36 +1,12 @@
--- A guess mended to the nearest root: each step keeps what the loops need, and what passes both tests is the root of 01's own words.
--- Assumes nothing.
-use Rattle.std.proofs.Common.{◌≡◌, ℕ, zero, suc, ◌+◌, ◌-◌, ◌*◌, ◌/◌, ◌^◌, ◌<◌, ◌≤◌, not, T, pos, refl, ap, ◌∙◌, lt_irrefl, mul-le-mul_right, add-mul, mul-le-mul, arith, pow_mono, pow-add}
+-- A guess mended to the nearest root: what passes both tests is the root of 01's own words. Assumes nothing.
+use Rattle.std.proofs.Common.{◌≡◌, ℕ, zero, suc, ◌+◌, ◌-◌, ◌*◌, ◌/◌, ◌^◌, ◌<◌, ◌≤◌, not, T, pos, refl, ap, ◌∙◌, lt_irrefl, mul-le-mul_right, add-mul, arith, pow_mono, pow-add}
 use native.Mathlib.Nat.{pow-succ'}
 use lib.Count.{count_leading_zeros, leading_top}
 use lib.Ieee.{binary32, of_bits, of_int, nan_bits}
 use Rattle.rules.specs.Sums.{whole_f32}
 use Rattle.rules.specs.Root.{cap_s, NearestRoot, near_root, root_of}
 use Rattle.rules.proofs.Patterns.{pattern, pattern_ok, pattern_is}
-use Rattle.rules.proofs.Roots.{suc_sq, near_is, Scaled, nearest, root_is}
-
--- ---- the two loops
-
-pub square_fits : (m : ℕ) → m < 2 ^ 24 → m * m ≤ (2 ^ 24 - 1) * (2 ^ 24 - 1)
-square_fits m h = let l : m ≤ 2 ^ 24 - 1 = omega arith in mul-le-mul l l
-
--- too low, so one more still has 24 binary digits
-pub more_fits : {m t : ℕ} → m < 2 ^ 24 → t ≤ 2 ^ 48 - 2 ^ 32 → m * m + m < t → m + 1 < 2 ^ 24
-more_fits {m} {t} h u l =
-    let no : 2 ^ 24 - 1 ≤ m → ⊥ = λ k. lt_irrefl t (omega (arith, mul-le-mul k k)) in
-    omega arith
-
--- a number with a square above 0
-pub some : (m : ℕ) {n : ℕ} → n ≤ m * m → 0 < n → 0 < m
-some zero l h = absurd (omega arith)
-some (suc m) l h = omega arith
-
--- too high, so one less is not too low
-pub less_reaches : (m t : ℕ) → 0 < t → t + m ≤ m * m → t ≤ (m - 1) * (m - 1) + (m - 1)
-less_reaches m t h l =
-    let p : 0 < m = some m l (omega arith) in
-    let e : m - 1 + 1 ≡ m = omega arith in
-    omega (arith, ap (λ (x : ℕ). x * x) e, suc_sq (m - 1))
+use Rattle.rules.proofs.Roots.{near_is, Scaled, nearest, root_is}
 
 -- ---- the scale, by the leading zeros
 

@@ -13,10 +13,6 @@ use Rattle.pixel.proofs.Mending.{four, cap_is}
 pub reaches : {t m : ℕ} → m * (m + 1) / 2 ^ 32 ≡ t → m * (m + 1) % 2 ^ 32 < 2 * m → Near (t * 2 ^ 32) m
 reaches {t} {m} h l = record { low = omega (arith, mul-add m m 1); high = omega (arith, mul-add m m 1) }
 
--- and m² + m fits
-pub product_fits : {m : ℕ} → m < 2 ^ 24 → m * (m + 1) ≤ (2 ^ 24 - 1) * 2 ^ 24
-product_fits {m} h = let l : m ≤ 2 ^ 24 - 1 = omega arith in let u : m + 1 ≤ 2 ^ 24 = omega arith in mul-le-mul l u
-
 -- a number near the root of nothing is small
 some_sum : (s x : ℕ) {m : ℕ} → 2 ≤ m → m * m < s * x + m → 0 < s
 some_sum zero x {m} l h = absurd (omega (arith, zero-mul x, mul-le-mul_right m l))

@@ -33,16 +33,10 @@ module _ {table : List ℤ} {nine : List ℕ} (k : Lent table nine) where
   abbrev product : ℕ → ℤ
   product j = to_z w16 (of_z w16 (get_or table j (pos 0))) *ℤ to_z w16 (get_or nine j 0)
 
-  pub byte_fits : (j : ℕ) → SFits w16 (pos (get_or nine j 0))
-  byte_fits j = sfits w16 (pos (get_or nine j 0)) (omega (arith, k.byte j))
-
   product_is : (j : ℕ) → product j ≡ term table nine j
   product_is j =
       let l : get_or nine j 0 < 2 ^ 15 = omega (arith, k.byte j) in
       rw (back w16 (get_or table j (pos 0)) (omega (arith, k.small.small j)), to_z_pos w16 (get_or nine j 0) l)
-
-  pub product_fits : (j : ℕ) → SFits w16 (product j)
-  product_fits j = rw (product_is j) (sfits w16 (term table nine j) (omega (arith, term_size j)))
 
   module _ {j bits : ℕ} (l : j < 9) (e : bits ≡ of_z w16 (sum_z (term table nine) j)) where
     pub sum_is : to_z w16 bits +ℤ to_z w16 (of_z w16 (product j)) ≡ sum_z (term table nine) (j + 1)

@@ -4,21 +4,17 @@ ghost use Rattle.std.specs.Prelude.{◌≡◌, ◌≤◌, true};
 ghost use Rattle.rules.specs.Root.{upper_end, sobel_byte};
 ghost use Rattle.pixel.specs.Components.{nine_energy};
 ghost use Rattle.pixel.specs.Guess.{low_byte, byte_guess};
-ghost use Rattle.pixel.specs.Halving.{upper_ends, Ends, Among, Halving, held, place_of};
+ghost use Rattle.pixel.specs.Halving.{upper_ends, Ends, held, place_of};
 
 use crate::components::{energy, gx_of, gy_of};
-use crate::root::first_guess;
-use std::num::wrapping_add_u16;
+use crate::root::{first_guess, heron};
 
 // S in 16 bits, of which eight fit where four of 32 do. Over the last end every number has byte 255, so one will do for all.
 #[tactic(auto, unfolding(crate::specs::Halving::held))]
 fn held(s: u32) -> u16
     ensures { result ≡ held s }
 {
-    if s < 64771 {
-        return s as u16;
-    }
-    64771
+    s.min(64771) as u16
 }
 
 // S of the nine bytes about a pixel, so held.
@@ -28,7 +24,7 @@ pub fn sum_of(nine: &[u8; 9]) -> u16
     held(energy(gx_of(nine), gy_of(nine)))
 }
 
-// ---- The byte of any S, by the table of upper ends: the 256 that it may be, halved eight times.
+// ---- The byte of any S, by the table of upper ends: as many as there are ends below it.
 
 // The table, to lend: the compiler puts it on the stack of whoever calls this.
 pub fn upper_ends() -> [u32; 255]
@@ -37,39 +33,40 @@ pub fn upper_ends() -> [u32; 255]
     ENDS
 }
 
-// Of the 2 * b bytes from n on, the upper half if the end before it is below s, else the lower: told by its first.
-fn half_by(ends: &[u32], s: u32, n: usize, b: usize) -> usize
-    requires { Ends ends.now × Halving s n b }
-    ensures { Among s result b }
-{
-    let m = n + b;
-    if ends[m - 1] < s {
-        return m;
-    }
-    n
+// The table as a value, on the stack of whoever makes it, to lend: its entries are the ends, and nobody else can write them.
+#[derive(Drop)]
+pub struct EndTable {
+    ends: [u32; 255],
+    ghost holds: { Ends ends },
 }
 
-fn byte_by(ends: &[u32], s: u32) -> u8
-    requires { Ends ends.now }
-    ensures { result ≡ sobel_byte s }
-{
-    let mut n = half_by(ends, s, 0, 128);
-    n = half_by(ends, s, n, 64);
-    n = half_by(ends, s, n, 32);
-    n = half_by(ends, s, n, 16);
-    n = half_by(ends, s, n, 8);
-    n = half_by(ends, s, n, 4);
-    n = half_by(ends, s, n, 2);
-    n = half_by(ends, s, n, 1);
-    n as u8
+impl EndTable {
+    pub fn new() -> EndTable
+        ensures { result.ends ≡ upper_ends }
+    {
+        EndTable { ends: upper_ends() }
+    }
+
+    // The byte of any S.
+    pub fn byte_of(&self, s: u32) -> u8
+        ensures { result ≡ sobel_byte s }
+    {
+        self.ends.partition_point(|end| *end < s) as u8
+    }
+
+    // The end to test a byte by.
+    pub fn end_of(&self, byte: u8) -> u16
+        ensures { result ≡ upper_end (place_of byte) }
+    {
+        self.ends[place_of(byte)] as u16
+    }
 }
 
 // The byte of any S, by the table.
 pub fn sobel_byte(s: u32) -> u8
     ensures { result ≡ sobel_byte s }
 {
-    let ends = upper_ends();
-    byte_by(&ends, s)
+    EndTable::new().byte_of(s)
 }
 
 // ---- A guess, and its test by the table.
@@ -80,7 +77,7 @@ fn low_byte(z: f32) -> u8
     ensures { result ≡ low_byte z }
 {
     if z > 0.0 {
-        return (f32::to_bits(z) % 256) as u8;
+        return (z.to_bits() % 256) as u8;
     }
     0
 }
@@ -93,8 +90,7 @@ pub fn guess(s: u16) -> u8
 {
     let f = s as f32;
     let a = first_guess(f);
-    let b = (a + f / a) * 0.5;
-    low_byte((b + f / b) * 0.5 + 8388608.0)
+    low_byte(heron(f, heron(f, a)) + 8388608.0)
 }
 
 // Where the table has the end to test a byte by: its own; for 255, which has none, the last.
@@ -102,10 +98,7 @@ pub fn guess(s: u16) -> u8
 pub fn place_of(byte: u8) -> usize
     ensures { (result ≡ place_of byte) × (result ≤ 254) }
 {
-    if byte < 255 {
-        return byte as usize;
-    }
-    254
+    byte.min(254) as usize
 }
 
 // Whether a byte is that of s, by its end: s is at most that, and above the end before it, which is 2 * byte less. Where the sum wraps, s is
@@ -114,17 +107,9 @@ pub fn is_byte(end: u16, s: u16, byte: u8) -> bool
     ensures { result ≡ true → end ≡ upper_end (place_of byte) → byte ≡ sobel_byte s }
 {
     let n = byte as u16;
-    let over = wrapping_add_u16(s, 2 * n);
+    let over = s.wrapping_add(2 * n);
     let within = (s <= end) & ((end < over) | (n == 0));
     ((n < 255) & within) | ((n == 255) & (end < s))
-}
-
-// The end that the table has for a byte.
-fn end_of(ends: &[u32], byte: u8) -> u16
-    requires { Ends ends.now }
-    ensures { result ≡ upper_end (place_of byte) }
-{
-    ends[place_of(byte)] as u16
 }
 
 // Whether the guess passes its test by the table, so that nothing is mended: it is then the byte already. For a run over every S
@@ -132,9 +117,8 @@ fn end_of(ends: &[u32], byte: u8) -> u16
 pub fn guess_holds(s: u16) -> bool
     ensures { result ≡ true → byte_guess s ≡ sobel_byte s }
 {
-    let ends = upper_ends();
     let byte = guess(s);
-    is_byte(end_of(&ends, byte), s, byte)
+    is_byte(EndTable::new().end_of(byte), s, byte)
 }
 
 // The 255 upper ends n² + n: S gets byte n from above the end before it up to its own (01.Gradient.5, 01.Gradient.6).

@@ -14,14 +14,13 @@ fn weigh(weights: &[i16], nine: &[u8]) -> i16
     ensures { result ≡ component weights.now nine.now }
 {
     let mut sum = 0i16;
-    let mut j = 0;
-    while j < 9 {
-        sum = sum + weights[j] * nine[j] as i16;
-        j += 1;
+    for j in 0..9 {
+        sum += weights[j] * nine[j] as i16;
     }
     sum
 }
 
+// Two names for one function of a table: what is said of a picture's components speaks of each.
 pub fn gx_of(nine: &[u8; 9]) -> i16
     ensures { result ≡ component gx_table nine.now }
 {

@@ -3,19 +3,16 @@
 ghost use Rattle.std.specs.Prelude.{◌≡◌, ◌+◌, ◌*◌, ◌^◌, ◌<◌, true, ◌≢◌, from_bits};
 ghost use Rattle.std.specs.Float.{binary32};
 ghost use Rattle.rules.specs.Root.{cap_s, Near, near_root, root_of, magnitude_of};
-ghost use Rattle.pixel.specs.Guess.{capped_s, first_guess, guess_of, near_test, root_test, bits_test, bits_from, Tried, BitsOf, Target};
+ghost use Rattle.pixel.specs.Guess.{capped_s, first_guess, heron, guess_of, near_test, root_test, bits_test, bits_from, Tried, BitsOf, Target};
 
 // From this S on the magnitude is 255.
 const CAP: u32 = 65025;
 
-// S, or the cap where it is less.
+// S, or the cap where it is less: a line of its own, as `held` in byte is, since each is the one of its definition.
 fn capped(s: u32) -> u16
     ensures { result ≡ capped_s s }
 {
-    if CAP <= s {
-        return 65025;
-    }
-    s as u16
+    s.min(CAP) as u16
 }
 
 // A float within 5 in 100 of the root of f, from its bits.
@@ -24,9 +21,16 @@ pub(crate) fn first_guess(f: f32) -> f32
     ensures { result ≡ first_guess f }
 {
     if f > 0.0 {
-        return f32::from_bits(f32::to_bits(f) / 2 % 1073741824 + 532487669);
+        return f32::from_bits(f.to_bits() / 2 % 1073741824 + 532487669);
     }
     1.0
+}
+
+// One of Heron's steps from a towards the root of f.
+pub(crate) fn heron(f: f32, a: f32) -> f32
+    ensures { result ≡ heron f a }
+{
+    (a + f / a) * 0.5
 }
 
 // Tried on every s, this is the magnitude itself (`guess_holds`), so that mending finds nothing to do; no proof leans on it. Two of Heron's
@@ -37,8 +41,7 @@ pub fn guess(s: u32) -> f32
 {
     let f = capped(s) as f32;
     let a = first_guess(f);
-    let b = (a + f / a) * 0.5;
-    let y = (b + f / b) * 0.5;
+    let y = heron(f, heron(f, a));
     let wide = y * 4097.0;
     let high = wide - (wide - y);
     let low = y - high;
@@ -48,11 +51,12 @@ pub fn guess(s: u32) -> f32
 
 // ---- a guess tested, with no branch
 
-// The bits of a float from +0 or -0 on. 1 for any other float: no magnitude has these bits.
+// The bits of a float from +0 or -0 on. 1 for any other float: no magnitude has these bits. A number and no `Option`, as `bits_from` has it,
+// so that a loop over pixels takes no branch.
 pub fn bits_of(y: f32) -> u32
     ensures { (result ≡ bits_from y) × ((result ≢ 1) → from_bits binary32 result ≡ y) }
 {
-    if 0.0 <= y { f32::to_bits(y) } else { 1 }
+    if 0.0 <= y { y.to_bits() } else { 1 }
 }
 
 // Whether m is the whole number nearest the root of t * 2^32: whether m² + m reaches it, by less than 2m.
@@ -93,17 +97,17 @@ fn four_of(i: u32) -> u64
     1u64 << (2 * i + 32)
 }
 
-// The 24 binary digits of a guess; 2^23 is 8,388,608.
+// The 24 binary digits of a guess, by its bits: no method of f32 gives them. 2^23 is 8,388,608.
 fn digits(y: f32) -> u64
     ensures { result < 2 ^ 24 }
 {
     if y > 0.0 {
-        return (f32::to_bits(y) % 8388608 + 8388608) as u64;
+        return (y.to_bits() % 8388608 + 8388608) as u64;
     }
     8388608
 }
 
-// The whole number nearest the root of t, from any start.
+// The whole number nearest the root of t, from any start. Two searches with no end known beforehand, so no range to go over.
 fn mend(t: u64, g: u64) -> u64
     requires { Target t g }
     ensures { result ≡ near_root t }
@@ -123,7 +127,7 @@ fn root_from(s: u32, y: f32) -> f32
     requires { (0 < s) × (s < cap_s) }
     ensures { result ≡ root_of s }
 {
-    let k = 23 - (31 - u32::leading_zeros(s)) / 2;
+    let k = 23 - (31 - s.leading_zeros()) / 2;
     let t = (s as u64) * four_of(k - 16);
     let m = mend(t, digits(y));
     f32::from_bits((150 - k) * 8388608 + ((m - 8388608) as u32))

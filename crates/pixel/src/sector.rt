@@ -7,11 +7,10 @@ ghost use Rattle.pixel.specs.Sizes.{AbsoluteOf};
 fn absolute(g: i16) -> u32
     ensures { AbsoluteOf g result }
 {
-    let z = g as i32;
-    if z < 0 { (0 - z) as u32 } else { z as u32 }
+    g.unsigned_abs() as u32
 }
 
-// The sector of a gradient, by squares (01.Gradient.7 to 01.Gradient.11): (a + b)² < 2a² is 2ab + b² < a², which 32 bits hold.
+// The sector of a gradient as its number, which document 01 asks for; by squares (01.Gradient.7 to 01.Gradient.11): (a + b)² < 2a² is 2ab + b² < a², which 32 bits hold.
 pub fn sector(gx: i16, gy: i16) -> u8
     ensures { result ≡ sector_of gx gy }
 {

@@ -1,2 +1,4 @@
 -- The laws behind this crate's proofs.
+pub mod Searching
+pub mod Down
 pub mod Refusing

@@ -1,4 +1,4 @@
-// The refusal number of each call, or 0: the rows of document 01's table whose subject it has, in ascending order.
+// Why each call refuses, if it does: the rows of document 01's table whose subject it has, in ascending order.
 #![tactic(auto)]
 
 pub mod filter;

@@ -1,53 +1,25 @@
-// The refusal number of a whole run.
-ghost use Rattle.std.specs.Prelude.{◌≡◌, ◌||◌, [], ltb};
+// Why a whole run refuses.
+ghost use Rattle.std.specs.Prelude.{◌≡◌, []};
+ghost use Rattle.rules.specs.Answers.{number};
 ghost use Rattle.rules.specs.Refusals.{first, scratch, run_front, run_rows};
 
-use crate::table::{bad_count, bad_threshold, bad_weight, side_over};
-use rules::{
-    ACCEPTED, MAX_TAPS, REFUSED_COUNT, REFUSED_INPUT, REFUSED_ORDER, REFUSED_ROOM, REFUSED_SIDE,
-    REFUSED_THRESHOLD, REFUSED_WEIGHT, Size, Thresholds,
-};
+use crate::filter::of_picture;
+use crate::table::{check_count, check_room, check_thresholds, check_weights};
+use rules::{MAX_TAPS, Refusal, Size, Thresholds};
 
 // Rows 1 to 6.
-fn before_room(pixels: &[u8], size: Size, taps: &[f32], thresholds: Thresholds) -> u8
-    ensures { result ≡ first (run_front size pixels.now taps.now thresholds []) }
+fn before_room(
+    pixels: &[u8],
+    size: Size,
+    taps: &[f32],
+    thresholds: Thresholds,
+) -> Result<(), Refusal>
+    ensures { number result ≡ first (run_front size pixels.now taps.now thresholds []) }
 {
-    if side_over(size) {
-        return REFUSED_SIDE;
-    }
-    if pixels.len() != size.width * size.height {
-        return REFUSED_INPUT;
-    }
-    if bad_count(MAX_TAPS, taps.len()) {
-        return REFUSED_COUNT;
-    }
-    if bad_weight(taps) {
-        return REFUSED_WEIGHT;
-    }
-    if bad_threshold(thresholds.low) | bad_threshold(thresholds.high) {
-        return REFUSED_THRESHOLD;
-    }
-    if thresholds.high < thresholds.low {
-        return REFUSED_ORDER;
-    }
-    ACCEPTED
-}
-
-// Row 7 of the scratch and the map, together: one of eight lengths is below n.
-fn lacks_room(
-    n: usize,
-    a: usize,
-    b: usize,
-    c: usize,
-    d: usize,
-    e: usize,
-    f: usize,
-    g: usize,
-    h: usize,
-) -> bool
-    ensures { result ≡ (ltb a n || (ltb b n || (ltb c n || (ltb d n || (ltb e n || (ltb f n || (ltb g n || ltb h n))))))) }
-{
-    (a < n) | ((b < n) | ((c < n) | ((d < n) | ((e < n) | ((f < n) | ((g < n) | (h < n)))))))
+    of_picture(pixels, size)?;
+    check_count(MAX_TAPS, taps.len())?;
+    check_weights(taps)?;
+    check_thresholds(thresholds)
 }
 
 pub fn of_run(
@@ -63,29 +35,20 @@ pub fn of_run(
     marks: &[u8],
     stack: &[u32],
     map: &[u8],
-) -> u8
-    ensures { result
+) -> Result<(), Refusal>
+    ensures { number result
         ≡ first
         (run_rows size pixels.now taps.now thresholds
         (scratch work.now magnitude.now gx.now gy.now blurred.now marks.now stack.now)
         map.now) }
 {
-    let refusal = before_room(pixels, size, taps, thresholds);
-    if refusal != ACCEPTED {
-        return refusal;
-    }
-    if lacks_room(
-        pixels.len(),
-        work.len(),
-        magnitude.len(),
-        gx.len(),
-        gy.len(),
-        blurred.len(),
-        marks.len(),
-        stack.len(),
-        map.len(),
-    ) {
-        return REFUSED_ROOM;
-    }
-    ACCEPTED
+    before_room(pixels, size, taps, thresholds)?;
+    check_room(work, size)?;
+    check_room(magnitude, size)?;
+    check_room(gx, size)?;
+    check_room(gy, size)?;
+    check_room(blurred, size)?;
+    check_room(marks, size)?;
+    check_room(stack, size)?;
+    check_room(map, size)
 }

@@ -1,8 +1,26 @@
 -- What a call answers by its refusal number: the number and what was there, or 0 and what acceptance gives. Assumes nothing.
 use mathlib.Core.Path.{◌≡◌, ap, ◌∙◌}
 use Prim.Native.Nat.{ℕ}
+use native.Mathlib.Omega.{arith}
 use borrow.Author.Tests.{ne_eqb}
+use Rattle.rules.specs.Answers.{number_of}
 use Rattle.rules.specs.Calls.{answered}
+use Rattle.rules.specs.declared.refusal.Refusal.{Refusal}
+use Rattle.rules.specs.declared.refusal.Refusal.TheVariants.{Side, Input, Count, Weight, Threshold, Order, Room, Budget, State, Pending, Layout}
+
+-- no refusal's number is that of acceptance
+pub named : (refusal : Refusal) → number_of refusal ≡ 0 → ⊥
+named Side e = omega arith
+named Input e = omega arith
+named Count e = omega arith
+named Weight e = omega arith
+named Threshold e = omega arith
+named Order e = omega arith
+named Room e = omega arith
+named Budget e = omega arith
+named State e = omega arith
+named Pending e = omega arith
+named Layout e = omega arith
 
 module _ {A : Type 0} (number r : ℕ) (e : r ≡ number) (done kept : A) where
   pub refused_is : (r ≡ 0 → ⊥) → (r, kept) ≡ answered number done kept

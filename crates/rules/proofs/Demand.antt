@@ -25,8 +25,7 @@ use Rattle.rules.specs.declared.BorderMode.{BorderMode}
 use Rattle.rules.specs.declared.BorderMode.TheVariants.{Zero, Clamp, Mirror}
 use Rattle.rules.specs.declared.Coord.{Coord}
 use Rattle.rules.specs.declared.Coord.TheVariants.{At, Nothing}
-use Rattle.rules.specs.declared.Started.{Started}
-use Rattle.rules.specs.declared.Counted.{Counted}
+use Rattle.rules.specs.Answers.{Started, Counted}
 use Rattle.rules.proofs.Bools.{neither}
 use Rattle.rules.proofs.Rows.{off}
 

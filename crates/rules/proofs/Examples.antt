@@ -18,7 +18,7 @@ use Rattle.rules.specs.Run.{blurred_of, component_of, magnitudes_of, suppressed_
 use Rattle.rules.specs.Diagonals.{vendor_neighbours, any_diagonal, any_diagonal_in}
 use Rattle.rules.specs.Frame.{breach, frame_taps, frame_pixels, decimal_by, decimal, refused_text, edges_text, rows_text, run_text, printout}
 use Rattle.rules.specs.Calls as Calls
-use Rattle.rules.specs.Examples.{Hold, Every, starred, slips, borders, sums, filters, gradients, suppressed, walks, tests, tables, runs, diagonals, frames}
+use Rattle.rules.specs.Examples.{Hold, Every, starred, slips, borders, sums, filters, gradients, suppressed, walks, tests, tables, runs, diagonals, frames, answers}
 
 pub starred_hold : Hold starred
 unfolding starred resolve_coord tabulate separable_at kernel_sum kernel_term sample_at ordered_sum to_byte add mul of_int of_bits magnitude_of root_of near_root whole_root odd sobel_byte least_from sector_of joined_count told closed grown any_below tally le edges_of end_of after_start started classed class sliced taken pop looks visit look
@@ -68,9 +68,12 @@ frames_hold : Hold frames
 unfolding blurred_of component_of magnitudes_of suppressed_under suppressed_by edges_of end_of count_of run_edges canny separable_at kernel_sum kernel_term sample_at ordered_sum to_byte add mul of_int of_bits gradient_at gradient_term sum_z magnitude_at magnitude_of root_of near_root whole_root odd sector_of neighbours after_start started classed class sliced taken pop looks visit look le lt any_below tally tabulate breach frame_taps frame_pixels decimal_by decimal refused_text edges_text rows_text run_text printout
 frames_hold = refl
 
+answers_hold : Hold answers
+answers_hold = refl
+
 pub slips_hold : Every slips
 unfolding slips
 slips_hold = (
   borders_hold,
-  (sums_hold, (filters_hold, (gradients_hold, (suppressed_hold, (walks_hold, (tests_hold, (tables_hold, (runs_hold, (diagonals_hold, (frames_hold, tt)))))))))),
+  (sums_hold, (filters_hold, (gradients_hold, (suppressed_hold, (walks_hold, (tests_hold, (tables_hold, (runs_hold, (diagonals_hold, (frames_hold, (answers_hold, tt))))))))))),
 )

@@ -20,9 +20,7 @@ use Rattle.rules.specs.declared.SeparableKernel.{SeparableKernel}
 use Rattle.rules.specs.declared.BorderMode.{BorderMode}
 use Rattle.rules.specs.declared.Thresholds.{Thresholds}
 use Rattle.rules.specs.declared.Walk.{Walk}
-use Rattle.rules.specs.declared.Started.{Started}
-use Rattle.rules.specs.declared.Sliced.{Sliced}
-use Rattle.rules.specs.declared.Mapped.{Mapped}
+use Rattle.rules.specs.Answers.{Started, Sliced, Mapped}
 
 -- what a call leaves: by its refusal number, what acceptance gives or what was there
 abbrev pub accepted {ℓ} : {A : Type ℓ} → ℕ → A → A → A

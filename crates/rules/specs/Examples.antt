@@ -1,6 +1,6 @@
 -- Examples that the checker computes: 01's starred ones, as one list and one statement about it (01.Proved.1 to 01.Proved.14), and a list of
 -- `slips`, inputs at which a definition that is wrong in one place gives another answer than 01's.
-use Rattle.std.specs.Prelude.{ℕ, zero, suc, ◌+◌, ◌-◌, ◌*◌, ◌/◌, ◌%◌, ◌≡◌, Bool, false, cond, ◌||◌, List, [], ◌∷◌, ◌++◌, map, eqb, length, get_or, set, drop, ℤ, pos, negsuc, Float}
+use Rattle.std.specs.Prelude.{ℕ, zero, suc, ◌+◌, ◌-◌, ◌*◌, ◌/◌, ◌%◌, ◌≡◌, Bool, false, cond, Ok, Err, ◌||◌, List, [], ◌∷◌, ◌++◌, map, eqb, length, get_or, set, drop, ℤ, pos, negsuc, Float}
 use Rattle.std.proofs.Math.Option.{Option, some, none}
 use Rattle.std.specs.Float.{nan, inf, fin, binary32}
 use Rattle.std.specs.Float.Ieee.{up, down, of_bits, to_bits}
@@ -29,10 +29,8 @@ use Rattle.rules.specs.declared.Kernel.{Kernel}
 use Rattle.rules.specs.declared.SeparableKernel.{SeparableKernel}
 use Rattle.rules.specs.declared.Thresholds.{Thresholds}
 use Rattle.rules.specs.declared.Walk.{Walk}
-use Rattle.rules.specs.declared.Started.{Started}
-use Rattle.rules.specs.declared.Sliced.{Sliced}
-use Rattle.rules.specs.declared.Mapped.{Mapped}
-use Rattle.rules.specs.declared.Counted.{Counted}
+use Rattle.rules.specs.declared.refusal.Refusal.TheVariants.{Side, Input, Count, Weight, Threshold, Order, Room, Budget, State, Pending, Layout}
+use Rattle.rules.specs.Answers.{Started, Sliced, Mapped, Counted, number_of, number, start_answer, slice_answer, map_answer, run_answer}
 use Rattle.rules.specs.declared.BorderMode.{BorderMode}
 use Rattle.rules.specs.declared.BorderMode.TheVariants.{Zero, Clamp, Mirror}
 
@@ -677,10 +675,42 @@ frames =
     ∷ ex (decimal 0 ++ (decimal 9 ++ (decimal 10 ++ decimal 2304))) (48 ∷ 57 ∷ 49 ∷ 48 ∷ 50 ∷ 51 ∷ 48 ∷ 52 ∷ [])
     ∷ []
 
+-- ---- answers (01.Refusal.14, 01.Shape.15)
+
+-- a walk of 2 by 3 with one pixel pending
+abbrev held_walk : Walk
+held_walk = record { width = 2; height = 3; pending = 1 }
+
+abbrev told_start : Started → List ℕ
+told_start a = a.refusal ∷ held a.walk
+
+abbrev told_slice : Sliced → List ℕ
+told_slice a = a.refusal ∷ a.takes ∷ held a.walk
+
+abbrev told_map : Mapped → List ℕ
+told_map a = a.refusal ∷ held a.walk
+
+abbrev told_run : Counted → List ℕ
+told_run a = a.refusal ∷ a.count ∷ []
+
+abbrev pub answers : List Example
+answers =
+    -- the table's numbers in its order; 0 is accepted, whatever comes with it
+    ex (map number_of (Side ∷ Input ∷ Count ∷ Weight ∷ Threshold ∷ Order ∷ Room ∷ Budget ∷ State ∷ Pending ∷ Layout ∷ []))
+    (1 ∷ 2 ∷ 3 ∷ 4 ∷ 5 ∷ 6 ∷ 7 ∷ 8 ∷ 9 ∷ 10 ∷ 11 ∷ [])
+    ∷ ex (number {A = ℕ} (Ok 5) ∷ number {A = ℕ} (Err Room) ∷ []) (0 ∷ 7 ∷ [])
+    -- a refused start's state is zero; a refused slice or map request hands the state back; a refused run counts 0
+    ∷ ex (told_start (start_answer (Ok held_walk)) ++ told_start (start_answer (Err Order))) (0 ∷ 2 ∷ 3 ∷ 1 ∷ 6 ∷ 0 ∷ 0 ∷ 0 ∷ [])
+    ∷ ex (told_slice (slice_answer held_walk (Ok (record { takes = 4; walk = record { width = 2; height = 3; pending = 0 } }))) ++ told_slice (slice_answer held_walk (Err Budget)))
+    (0 ∷ 4 ∷ 2 ∷ 3 ∷ 0 ∷ 8 ∷ 0 ∷ 2 ∷ 3 ∷ 1 ∷ [])
+    ∷ ex (told_map (map_answer {A = ℕ} held_walk (Ok 0)) ++ told_map (map_answer {A = ℕ} held_walk (Err Pending))) (0 ∷ 2 ∷ 3 ∷ 1 ∷ 10 ∷ 2 ∷ 3 ∷ 1 ∷ [])
+    ∷ ex (told_run (run_answer (Ok 9)) ++ told_run (run_answer (Err Side))) (0 ∷ 9 ∷ 1 ∷ 0 ∷ [])
+    ∷ []
+
 -- ---- THE LIST OF SLIPS, by subject
 
 unfoldable pub slips : List (List Example)
-slips = borders ∷ sums ∷ filters ∷ gradients ∷ suppressed ∷ walks ∷ tests ∷ tables ∷ runs ∷ diagonals ∷ frames ∷ []
+slips = borders ∷ sums ∷ filters ∷ gradients ∷ suppressed ∷ walks ∷ tests ∷ tables ∷ runs ∷ diagonals ∷ frames ∷ answers ∷ []
 
 abbrev pub Every : List (List Example) → Type 0
 Every [] = Unit

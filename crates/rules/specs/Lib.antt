@@ -11,6 +11,7 @@ pub mod Root
 pub mod Sector
 pub mod Suppression
 pub mod Walk
+pub mod Answers
 pub mod Refusals
 pub mod Calls
 pub mod Joined

@@ -12,7 +12,7 @@ use Rattle.rules.specs.Refusals.{first, run_rows, Scratch}
 use Rattle.rules.specs.Calls.{accepted, magnitude_at, after_start}
 use Rattle.rules.specs.declared.Size.{Size}
 use Rattle.rules.specs.declared.Thresholds.{Thresholds}
-use Rattle.rules.specs.declared.Counted.{Counted}
+use Rattle.rules.specs.Answers.{Counted}
 use Rattle.rules.specs.declared.BorderMode.TheVariants.{Clamp}
 
 -- the stages, each a picture in row order made from the one before

@@ -17,14 +17,15 @@ pub fn float(bits: u32) -> f32
     f32::from_bits(bits)
 }
 
-pub fn mode_of(n: u8) -> BorderMode
-    ensures { result ≡ mode_of n }
-{
-    if n == 0 {
-        return BorderMode::Zero;
+// 0 and 1 are Zero and Clamp; all else is Mirror.
+impl From<u8> for BorderMode {
+    ghost from_gives = { λ n mode. mode ≡ mode_of n };
+
+    fn from(n: u8) -> Self {
+        match n {
+            0 => BorderMode::Zero,
+            1 => BorderMode::Clamp,
+            _ => BorderMode::Mirror,
+        }
     }
-    if n == 1 {
-        return BorderMode::Clamp;
-    }
-    BorderMode::Mirror
 }

@@ -1,7 +1,10 @@
-// The shared types, limits and refusal numbers of document 01. The rules themselves are in specs/, their laws in proofs/.
+// The shared types, limits and refusals of document 01. The rules themselves are in specs/, their laws in proofs/.
 #![tactic(auto)]
 
 pub mod codes;
+mod refusal;
+
+pub use refusal::{Refusal, number};
 
 // What a sample outside the picture reads as (01.Border.3 to 01.Border.5).
 #[derive(Clone, Copy)]
@@ -14,7 +17,7 @@ pub enum BorderMode {
     Mirror,
 }
 
-// Where a coordinate is read.
+// Where a coordinate is read. Kept an enum of its own: document 01 asks for one where the Rust has an `Option` (01.Change.4).
 #[derive(Clone, Copy)]
 pub enum Coord {
     // At this place of the side.
@@ -25,7 +28,7 @@ pub enum Coord {
     Refused,
 }
 
-// The two sides of a picture in row order.
+// The two sides of a picture in row order. Its bytes are lent beside it: document 01 lets a record of both wait for 02's item 14.
 #[derive(Clone, Copy)]
 pub struct Size {
     pub width: usize,
@@ -61,33 +64,26 @@ pub struct Walk {
     pub pending: usize,
 }
 
-// The answer of a start: refused, the state is all zero.
-#[derive(Clone, Copy)]
-pub struct Started {
-    pub refusal: u8,
-    pub walk: Walk,
+// The picture of a walk.
+impl From<Walk> for Size {
+    ghost use Rattle.std.specs.Prelude.{◌≡◌};
+    ghost use Rattle.rules.specs.Calls.{sides_of};
+
+    ghost from_gives = { λ walk size. size ≡ sides_of walk };
+
+    fn from(walk: Walk) -> Size {
+        Size {
+            width: walk.width,
+            height: walk.height,
+        }
+    }
 }
 
-// The answer of a slice: refused, no takes and the state as it was.
+// What an accepted slice made: its takes, and the state after them.
 #[derive(Clone, Copy)]
-pub struct Sliced {
-    pub refusal: u8,
+pub struct Progress {
     pub takes: usize,
     pub walk: Walk,
-}
-
-// The answer of a request for the map, with the state as it was.
-#[derive(Clone, Copy)]
-pub struct Mapped {
-    pub refusal: u8,
-    pub walk: Walk,
-}
-
-// The answer of a whole run: how many entries of the map are 255; refused, 0.
-#[derive(Clone, Copy)]
-pub struct Counted {
-    pub refusal: u8,
-    pub count: usize,
 }
 
 // The limits (01.Take.5, 01.Frame.3).
@@ -104,31 +100,6 @@ pub const MAX_THRESHOLD: f32 = 255.0;
 pub const MAX_FRAME_SIDE: usize = 48;
 
 pub const MAX_FRAME_LENGTH: usize = 2588;
-
-// The refusal numbers (01.Refusal.1 to 01.Refusal.12).
-pub const ACCEPTED: u8 = 0;
-
-pub const REFUSED_SIDE: u8 = 1;
-
-pub const REFUSED_INPUT: u8 = 2;
-
-pub const REFUSED_COUNT: u8 = 3;
-
-pub const REFUSED_WEIGHT: u8 = 4;
-
-pub const REFUSED_THRESHOLD: u8 = 5;
-
-pub const REFUSED_ORDER: u8 = 6;
-
-pub const REFUSED_ROOM: u8 = 7;
-
-pub const REFUSED_BUDGET: u8 = 8;
-
-pub const REFUSED_STATE: u8 = 9;
-
-pub const REFUSED_PENDING: u8 = 10;
-
-pub const REFUSED_LAYOUT: u8 = 11;
 
 // The marks of a walk (01.Walk.2), and the map's entry at a finished pixel.
 pub const MARK_NONE: u8 = 0;

@@ -1,5 +1,6 @@
 // Buffers cleared, and bytes counted: what a whole run ends with, and its stages begin with. Every function is total: of a
-// buffer with fewer than n entries, all that it has.
+// buffer with fewer than n entries, all that it has. How many entries count travels beside the buffer, since each clause speaks of the whole
+// of it, what lies past them included.
 #![tactic(auto)]
 
 ghost use Rattle.std.specs.Prelude.{◌≡◌, ◌+◌, ◌-◌, ◌≤◌, min, length, pos};
@@ -7,53 +8,13 @@ ghost use Rattle.rules.specs.Sums.{plus_zero};
 ghost use Rattle.rules.specs.Walk.{count};
 ghost use Rattle.scratch.specs.Cleared.{cleared_to};
 
-pub fn least(a: usize, b: usize) -> usize
-    ensures { result ≡ min a b }
+// The first n entries. Kept a loop: the library's `fill` needs a `clone` that cannot fail, and `T: Copy` says nothing of that.
+pub fn clear<T: Copy>(buffer: &mut [T], n: usize, zero: T)
+    ensures { buffer.new ≡ cleared_to n zero buffer.old }
 {
-    if a < b { a } else { b }
-}
-
-pub fn clear_floats(buffer: &mut [f32], n: usize)
-    ensures { buffer.new ≡ cleared_to n plus_zero buffer.old }
-{
-    let most = least(n, buffer.len());
-    let mut i = 0;
-    while i < most {
-        buffer[i] = 0.0;
-        i += 1;
-    }
-}
-
-fn clear_components(buffer: &mut [i16], n: usize)
-    ensures { buffer.new ≡ cleared_to n (pos 0) buffer.old }
-{
-    let most = least(n, buffer.len());
-    let mut i = 0;
-    while i < most {
-        buffer[i] = 0;
-        i += 1;
-    }
-}
-
-fn clear_bytes(buffer: &mut [u8], n: usize)
-    ensures { buffer.new ≡ cleared_to n 0 buffer.old }
-{
-    let most = least(n, buffer.len());
-    let mut i = 0;
-    while i < most {
-        buffer[i] = 0;
-        i += 1;
-    }
-}
-
-pub fn clear_places(buffer: &mut [u32], n: usize)
-    ensures { buffer.new ≡ cleared_to n 0 buffer.old }
-{
-    let most = least(n, buffer.len());
-    let mut i = 0;
-    while i < most {
-        buffer[i] = 0;
-        i += 1;
+    let most = n.min(buffer.len());
+    for entry in &mut buffer[..most] {
+        *entry = zero;
     }
 }
 
@@ -70,10 +31,10 @@ pub fn clear_stages(
         × (gy.new ≡ cleared_to n (pos 0) gy.old)
         × (blurred.new ≡ cleared_to n 0 blurred.old) }
 {
-    clear_floats(magnitude, n);
-    clear_components(gx, n);
-    clear_components(gy, n);
-    clear_bytes(blurred, n);
+    clear(magnitude, n, 0.0);
+    clear(gx, n, 0);
+    clear(gy, n, 0);
+    clear(blurred, n, 0);
 }
 
 // What the walk worked in, with the magnitudes that it read.
@@ -82,23 +43,21 @@ pub fn clear_walk(work: &mut [f32], marks: &mut [u8], stack: &mut [u32], n: usiz
         × (marks.new ≡ cleared_to n 0 marks.old)
         × (stack.new ≡ cleared_to n 0 stack.old) }
 {
-    clear_floats(work, n);
-    clear_bytes(marks, n);
-    clear_places(stack, n);
+    clear(work, n, 0.0);
+    clear(marks, n, 0);
+    clear(stack, n, 0);
 }
 
-// How many of the entries from a to e are v: counted in a byte, so that the loop looks at many at once.
-fn count_block(bytes: &[u8], v: u8, a: usize, e: usize) -> u8
-    requires { (a ≤ e) × (e - a ≤ 255) × (e ≤ length bytes.now) }
-    ensures { count v bytes.now e ≡ count v bytes.now a + result }
+// How many entries of a block are v: counted in a byte, so that the loop looks at many at once.
+fn count_block(block: &[u8], v: u8) -> u8
+    requires { length block.now ≤ 255 }
+    ensures { result ≡ count v block.now (length block.now) }
 {
     let mut found = 0;
-    let mut i = a;
-    while i < e {
-        if bytes[i] == v {
+    for byte in block {
+        if *byte == v {
             found += 1;
         }
-        i += 1;
     }
     found
 }
@@ -110,13 +69,10 @@ const BLOCK: usize = 255;
 pub fn count_of(bytes: &[u8], v: u8, n: usize) -> usize
     ensures { (result ≤ n) × (result ≡ count v bytes.now (min n (length bytes.now))) }
 {
-    let most = least(n, bytes.len());
+    let most = n.min(bytes.len());
     let mut found = 0;
-    let mut a = 0;
-    while a < most {
-        let e = a + least(BLOCK, most - a);
-        found += count_block(bytes, v, a, e) as usize;
-        a = e;
+    for block in bytes[..most].chunks(BLOCK) {
+        found += count_block(block, v) as usize;
     }
     found
 }

@@ -1,48 +1,46 @@
 // What a call left, compared with a list of numbers.
-use cases::signed;
+use cases::Number;
 
-// What an output holds before a call, and past the picture after it.
-pub(crate) const LEFT: u8 = 7;
+// An entry of an output.
+pub(crate) trait Output: Number {
+    // What it holds before a call, and past the picture after it.
+    const LEFT: Self;
 
-pub(crate) const LEFT_FLOAT: f32 = 7.0;
+    // Whether it is what a number of the file wants, which may be larger than it can be.
+    fn is_number(&self, wanted: u32) -> bool;
+}
 
-pub(crate) const LEFT_NUMBER: i16 = 7;
+impl Output for u8 {
+    const LEFT: u8 = 7;
+
+    fn is_number(&self, wanted: u32) -> bool {
+        u32::from(*self) == wanted
+    }
+}
+
+impl Output for f32 {
+    const LEFT: f32 = 7.0;
+
+    fn is_number(&self, wanted: u32) -> bool {
+        report::bits(*self) == wanted
+    }
+}
+
+impl Output for i16 {
+    const LEFT: i16 = 7;
+
+    fn is_number(&self, wanted: u32) -> bool {
+        *self == i16::from_pattern(wanted)
+    }
+}
 
 // Whether a call left this list, and nothing of its own past it.
-pub(crate) fn bytes_are(got: &[u8], list: &[u32]) -> bool {
-    let mut same = list.len() <= got.len();
-    let mut i = 0;
-    while i < got.len() {
-        let wanted = if i < list.len() { list[i] } else { LEFT as u32 };
-        same = same & (got[i] as u32 == wanted);
-        i += 1;
-    }
-    same
-}
-
-pub(crate) fn floats_are(got: &[f32], list: &[u32]) -> bool {
-    let left = report::bits(LEFT_FLOAT);
-    let mut same = list.len() <= got.len();
-    let mut i = 0;
-    while i < got.len() {
-        let wanted = if i < list.len() { list[i] } else { left };
-        same = same & (report::bits(got[i]) == wanted);
-        i += 1;
-    }
-    same
-}
-
-pub(crate) fn numbers_are(got: &[i16], list: &[u32]) -> bool {
-    let mut same = list.len() <= got.len();
-    let mut i = 0;
-    while i < got.len() {
-        let wanted = if i < list.len() {
-            signed(list[i])
-        } else {
-            LEFT_NUMBER
-        };
-        same = same & (got[i] == wanted);
-        i += 1;
-    }
-    same
+pub(crate) fn is_list<T: Output>(got: &[T], list: &[u32]) -> bool {
+    let n = list.len();
+    n <= got.len()
+        && got
+            .iter()
+            .zip(list)
+            .all(|(entry, wanted)| entry.is_number(*wanted))
+        && report::all_are(&got[n..], T::LEFT)
 }

@@ -6,8 +6,10 @@ mod case;
 mod gradients;
 mod lists;
 mod pictures;
+mod stage;
 mod walks;
 
+use cases::Text;
 use std::io;
 
 // More bytes than the file has.
@@ -16,16 +18,10 @@ const ROOM: usize = 262144;
 fn main(rt: HostRuntime) -> io::Result<()> {
     let mut text = [0u8; ROOM];
     let n = cases::read_full(&mut rt.stdin(), &mut text)?;
-    lines_of(&rt, &text[..n])
-}
-
-fn lines_of(rt: &impl Print, text: &[u8]) -> io::Result<()> {
-    let mut at = 0;
-    while at < text.len() {
-        if !cases::starts_remark(text, at) {
-            case::run(rt, text, at)?;
+    for case in Text::new(&text[..n]).cases() {
+        if !case.is_remark() {
+            case::run(&rt, case)?;
         }
-        at = cases::next_line(text, at);
     }
     Ok(())
 }

@@ -1,92 +1,89 @@
 // The walk cut into slices, and the whole run.
-ghost use Rattle.std.specs.Prelude.{◌≤◌};
-
-use crate::case::{Case, LIST};
-use crate::lists;
-use crate::lists::{LEFT, LEFT_FLOAT, LEFT_NUMBER};
+use crate::case::{Case, LIST, turned};
+use crate::lists::{Output, is_list};
+use cases::Number;
 use kelontsira::run::kelontsira_canny;
 use kelontsira::walk::{kelontsira_map, kelontsira_slice, kelontsira_start};
-use rules::codes::float;
-
-pub(crate) fn replay(case: Case, one: &[u32], two: &[u32], wanted: &[u32]) -> bool {
-    if case.stage == 13 {
-        return walked(case, one, wanted);
-    }
-    whole(case, one, two, wanted)
-}
+use rules::{EDGE, Walk};
 
 // Slices of three takes.
 const BUDGET: usize = 3;
 
-fn walked(case: Case, one: &[u32], wanted: &[u32]) -> bool {
+pub(crate) fn walked(case: &Case) -> bool {
     let mut magnitudes = [0.0f32; LIST];
-    let n = cases::floats(one, &mut magnitudes);
-    let mut marks = [LEFT; LIST];
+    let mut marks = [u8::LEFT; LIST];
     let mut stack = [0u32; LIST];
-    let mut out = [LEFT; LIST];
-    let mut wide = 0;
-    let mut tall = 0;
-    let mut pending = 0;
+    let mut out = [u8::LEFT; LIST];
+    let mut walk = Walk {
+        width: 0,
+        height: 0,
+        pending: 0,
+    };
     let started = kelontsira_start(
-        &magnitudes[0..n],
-        case.width,
-        case.height,
-        float(case.p),
-        float(case.q),
+        turned(case.one, &mut magnitudes),
+        case.size.width,
+        case.size.height,
+        f32::from_pattern(case.p),
+        f32::from_pattern(case.q),
         &mut marks,
         &mut stack,
-        &mut wide,
-        &mut tall,
-        &mut pending,
+        &mut walk.width,
+        &mut walk.height,
+        &mut walk.pending,
     );
-    let sliced = slices(&mut wide, &mut tall, &mut pending, &mut marks, &mut stack);
-    let mapped = kelontsira_map(wide, tall, pending, &marks, &stack, &mut out);
-    (started == 0) & (sliced & ((mapped == 0) & lists::bytes_are(&out, wanted)))
+    let are_sliced = slices(&mut walk, &mut marks, &mut stack);
+    let mapped = kelontsira_map(
+        walk.width,
+        walk.height,
+        walk.pending,
+        &marks,
+        &stack,
+        &mut out,
+    );
+    started == 0 && are_sliced && mapped == 0 && is_list(&out, case.wanted)
 }
 
 // Until nothing is pending: a slice makes a take at least, and there are no more takes than entries.
-fn slices(
-    wide: &mut usize,
-    tall: &mut usize,
-    pending: &mut usize,
-    marks: &mut [u8],
-    stack: &mut [u32],
-) -> bool {
-    let mut accepted = true;
+fn slices(walk: &mut Walk, marks: &mut [u8], stack: &mut [u32]) -> bool {
+    let mut are_accepted = true;
     let mut takes = 0;
-    let mut i = 0;
-    while i < LIST {
-        if *pending == 0 {
-            return accepted;
+    for _ in 0..LIST {
+        if walk.pending == 0 {
+            return are_accepted;
         }
-        let refusal = kelontsira_slice(wide, tall, pending, BUDGET, marks, stack, &mut takes);
-        accepted = accepted & (refusal == 0);
-        i += 1;
+        let refusal = kelontsira_slice(
+            &mut walk.width,
+            &mut walk.height,
+            &mut walk.pending,
+            BUDGET,
+            marks,
+            stack,
+            &mut takes,
+        );
+        are_accepted &= refusal == 0;
     }
-    accepted
+    are_accepted
 }
 
-fn whole(case: Case, one: &[u32], two: &[u32], wanted: &[u32]) -> bool {
+pub(crate) fn whole(case: &Case) -> bool {
     let mut pixels = [0u8; LIST];
     let mut taps = [0.0f32; LIST];
-    let n = cases::bytes(one, &mut pixels);
-    let m = cases::floats(two, &mut taps);
-    let mut work = [LEFT_FLOAT; LIST];
-    let mut magnitude = [LEFT_FLOAT; LIST];
-    let mut gx = [LEFT_NUMBER; LIST];
-    let mut gy = [LEFT_NUMBER; LIST];
-    let mut blurred = [LEFT; LIST];
-    let mut marks = [LEFT; LIST];
+    let mut work = [f32::LEFT; LIST];
+    let mut magnitude = [f32::LEFT; LIST];
+    let mut gx = [i16::LEFT; LIST];
+    let mut gy = [i16::LEFT; LIST];
+    let mut blurred = [u8::LEFT; LIST];
+    let mut marks = [u8::LEFT; LIST];
     let mut stack = [0u32; LIST];
-    let mut out = [LEFT; LIST];
+    let mut out = [u8::LEFT; LIST];
     let mut count = 0;
     let refusal = kelontsira_canny(
-        &pixels[0..n],
-        case.width,
-        case.height,
-        &taps[0..m],
-        float(case.p),
-        float(case.q),
+        turned(case.one, &mut pixels),
+        case.size.width,
+        case.size.height,
+        turned(case.two, &mut taps),
+        f32::from_pattern(case.p),
+        f32::from_pattern(case.q),
         &mut work,
         &mut magnitude,
         &mut gx,
@@ -97,22 +94,10 @@ fn whole(case: Case, one: &[u32], two: &[u32], wanted: &[u32]) -> bool {
         &mut out,
         &mut count,
     );
-    (refusal == 0) & ((count == edges(wanted)) & lists::bytes_are(&out, wanted))
-}
-
-fn edge(entry: u32) -> usize
-    ensures { result ≤ 1 }
-{
-    if entry == 255 { 1 } else { 0 }
-}
-
-// How many entries are 255.
-fn edges(wanted: &[u32]) -> usize {
-    let mut n = 0;
-    let mut i = 0;
-    while i < wanted.len() {
-        n += edge(wanted[i]);
-        i += 1;
-    }
-    n
+    let edges = case
+        .wanted
+        .iter()
+        .filter(|entry| **entry == u32::from(EDGE))
+        .count();
+    refusal == 0 && count == edges && is_list(&out, case.wanted)
 }

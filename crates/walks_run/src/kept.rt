@@ -1,126 +1,59 @@
 // What a whole run leaves. Of scratch a line says whether it is what it was before, but for the values of the field scratch-after; an array
 // is 0 past what the case says of it. Of the map the first entries are shown, as many as the smaller pictures have.
-use cases::fields::ROOM;
-use cases::{fields, signed};
+use cases::{Line, Number, ROOM};
 use std::io;
 
 const SHOWN: usize = 48;
 
-pub(crate) fn walk(
+// Floats as the case has them, by their patterns.
+pub(crate) fn patterns(got: &[f32; ROOM]) -> [u32; ROOM] {
+    let mut patterns = [0u32; ROOM];
+    for (pattern, x) in patterns.iter_mut().zip(got) {
+        *pattern = report::bits(*x);
+    }
+    patterns
+}
+
+// A buffer of scratch, whose field has its name.
+pub(crate) fn scratch<T: Number>(
     rt: &impl Print,
-    line: &[u8],
-    blurred: &[u8],
-    marks: &[u8],
-    stack: &[u32],
-    map: &[u8],
+    line: &Line,
+    name: &[u8],
+    got: &[T],
 ) -> io::Result<()> {
-    bytes(rt, line, b"blurred", blurred)?;
-    bytes(rt, line, b"marks", marks)?;
-    places(rt, line, stack)?;
-    rest_of_map(rt, line, map)
-}
-
-pub(crate) fn stages(
-    rt: &impl Print,
-    line: &[u8],
-    work: &[f32; ROOM],
-    magnitude: &[f32; ROOM],
-    gx: &[i16; ROOM],
-    gy: &[i16; ROOM],
-) -> io::Result<()> {
-    floats(rt, line, b"work", work)?;
-    floats(rt, line, b"magnitude", magnitude)?;
-    numbers(rt, line, b"gx", gx)?;
-    numbers(rt, line, b"gy", gy)
-}
-
-fn bytes(rt: &impl Print, line: &[u8], name: &[u8], got: &[u8]) -> io::Result<()> {
-    let mut wanted = [0u8; ROOM];
-    let n = fields::bytes(line, name, &mut wanted);
-    fields::bytes(line, b"scratch-after", &mut wanted);
-    says(rt, name, report::same_bytes(got, &wanted[0..n]))
-}
-
-fn says(rt: &impl Print, name: &[u8], same: bool) -> io::Result<()> {
+    let mut wanted = [T::from_pattern(0); ROOM];
+    line.list(name, &mut wanted);
+    line.list(b"scratch-after", &mut wanted);
     report::words(rt, b"  ")?;
-    report::yes(rt, name, same)?;
+    report::yes(rt, name, report::same(got, &wanted[..got.len().min(ROOM)]))?;
     Ok(())
-}
-
-fn places(rt: &impl Print, line: &[u8], got: &[u32]) -> io::Result<()> {
-    let mut wanted = [0u32; ROOM];
-    let n = fields::places(line, b"stack", &mut wanted);
-    fields::places(line, b"scratch-after", &mut wanted);
-    says(rt, b"stack", places_are(got, &wanted[0..n]))
-}
-
-fn places_are(got: &[u32], wanted: &[u32]) -> bool {
-    if got.len() != wanted.len() {
-        return false;
-    }
-    let mut same = true;
-    let mut i = 0;
-    while i < got.len() {
-        same = same & (got[i] == wanted[i]);
-        i += 1;
-    }
-    same
-}
-
-fn floats(rt: &impl Print, line: &[u8], name: &[u8], got: &[f32; ROOM]) -> io::Result<()> {
-    let wanted = patterns(line, name);
-    let mut same = true;
-    let mut i = 0;
-    while i < ROOM {
-        same = same & (report::bits(got[i]) == wanted[i]);
-        i += 1;
-    }
-    says(rt, name, same)
-}
-
-fn numbers(rt: &impl Print, line: &[u8], name: &[u8], got: &[i16; ROOM]) -> io::Result<()> {
-    let wanted = patterns(line, name);
-    let mut same = true;
-    let mut i = 0;
-    while i < ROOM {
-        same = same & (got[i] == signed(wanted[i]));
-        i += 1;
-    }
-    says(rt, name, same)
-}
-
-fn patterns(line: &[u8], name: &[u8]) -> [u32; ROOM] {
-    let mut wanted = [0u32; ROOM];
-    fields::places(line, name, &mut wanted);
-    fields::places(line, b"scratch-after", &mut wanted);
-    wanted
 }
 
 pub(crate) fn first_of_map(
     rt: &impl Print,
     name: &[u8],
-    line: &[u8],
+    line: &Line,
     map: &[u8],
 ) -> io::Result<()> {
     let mut wanted = [0u8; ROOM];
     read_map(line, &mut wanted);
-    if SHOWN <= map.len() {
-        report::bytes(rt, name, &map[0..SHOWN], &wanted[0..SHOWN])?;
+    if let (Some(got), Some(wanted)) = (map.get(..SHOWN), wanted.get(..SHOWN)) {
+        report::list(rt, name, got, wanted)?;
     }
     Ok(())
 }
 
-fn rest_of_map(rt: &impl Print, line: &[u8], map: &[u8]) -> io::Result<()> {
+pub(crate) fn rest_of_map(rt: &impl Print, line: &Line, map: &[u8]) -> io::Result<()> {
     let mut wanted = [0u8; ROOM];
     read_map(line, &mut wanted);
     if map.len() == ROOM {
-        let same = report::same_bytes(&map[SHOWN..ROOM], &wanted[SHOWN..ROOM]);
+        let same = report::same(&map[SHOWN..], &wanted[SHOWN..]);
         report::yes(rt, b"  the map from there on", same)?;
     }
     Ok(())
 }
 
-fn read_map(line: &[u8], wanted: &mut [u8]) {
-    fields::bytes(line, b"map", wanted);
-    fields::bytes(line, b"map-after", wanted);
+fn read_map(line: &Line, wanted: &mut [u8]) {
+    line.list(b"map", wanted);
+    line.list(b"map-after", wanted);
 }

@@ -1,103 +1,96 @@
-// A whole run over scratch that is full of what it must not leave, and all that it leaves. The buffers are lent in steps, since a function
-// is checked against all that it lends.
-use crate::{calls, kept};
-use cases::fields::ROOM;
-use cases::{fields, lines};
+// A whole run over scratch that is full of what it must not leave, and all that it leaves. The buffers are lent in three steps, since
+// a function is checked against all that it lends.
+use crate::kept;
+use crate::lent::Lent;
+use cases::{Line, ROOM, lines};
 use kelontsira::run::kelontsira_canny;
 use rules::MARK_PENDING;
-use scratch::count_of;
 use std::io;
 
-pub(crate) fn run(
-    rt: &impl Print,
-    line: &[u8],
-    marks: &mut [u8],
-    stack: &mut [u32],
-    map: &mut [u8],
-) -> io::Result<()> {
+pub(crate) fn run(rt: &impl Print, line: &Line, lent: &mut Lent) -> io::Result<()> {
     let mut work = [0.0f32; ROOM];
     let mut magnitude = [0.0f32; ROOM];
     let mut gx = [0i16; ROOM];
     let mut gy = [0i16; ROOM];
-    let mut blurred = [0u8; ROOM];
-    let a = fields::floats(line, b"work", &mut work);
-    let b = fields::floats(line, b"magnitude", &mut magnitude);
-    let c = fields::numbers(line, b"gx", &mut gx);
-    let d = fields::numbers(line, b"gy", &mut gy);
-    let e = fields::bytes(line, b"blurred", &mut blurred);
     called(
         rt,
         line,
-        &mut work[0..a],
-        &mut magnitude[0..b],
-        &mut gx[0..c],
-        &mut gy[0..d],
-        &mut blurred[0..e],
-        marks,
-        stack,
-        map,
+        lent,
+        line.list(b"work", &mut work),
+        line.list(b"magnitude", &mut magnitude),
+        line.list(b"gx", &mut gx),
+        line.list(b"gy", &mut gy),
     )?;
-    kept::stages(rt, line, &work, &magnitude, &gx, &gy)
+    kept::scratch(rt, line, b"work", &kept::patterns(&work))?;
+    kept::scratch(rt, line, b"magnitude", &kept::patterns(&magnitude))?;
+    kept::scratch(rt, line, b"gx", &gx)?;
+    kept::scratch(rt, line, b"gy", &gy)
 }
 
 fn called(
     rt: &impl Print,
-    line: &[u8],
+    line: &Line,
+    lent: &mut Lent,
+    work: &mut [f32],
+    magnitude: &mut [f32],
+    gx: &mut [i16],
+    gy: &mut [i16],
+) -> io::Result<()> {
+    let mut blurred = [0u8; ROOM];
+    let blurred = line.list(b"blurred", &mut blurred);
+    let pending = lent.marked(MARK_PENDING);
+    let (number, count) = canny(line, lent, work, magnitude, gx, gy, blurred);
+    answered(rt, line, number, lent.map)?;
+    lines::count(rt, b"  count", line, b"count", count)?;
+    lines::count(rt, b"  pending before", line, b"pending", pending)?;
+    kept::scratch(rt, line, b"blurred", blurred)?;
+    kept::scratch(rt, line, b"marks", lent.marks)?;
+    kept::scratch(rt, line, b"stack", lent.stack)?;
+    kept::rest_of_map(rt, line, lent.map)
+}
+
+// The run's number, and how many edges it counts.
+fn canny(
+    line: &Line,
+    lent: &mut Lent,
     work: &mut [f32],
     magnitude: &mut [f32],
     gx: &mut [i16],
     gy: &mut [i16],
     blurred: &mut [u8],
-    marks: &mut [u8],
-    stack: &mut [u32],
-    map: &mut [u8],
-) -> io::Result<()> {
-    let size = calls::size(line);
-    let levels = calls::thresholds(line);
-    let pending = count_of(marks, MARK_PENDING, marks.len());
-    let lent = fields::lent(line, b"map-lent", map.len());
+) -> (u8, usize) {
     let mut pixels = [0u8; ROOM];
     let mut taps = [0.0f32; ROOM];
-    let n = fields::bytes(line, b"pixels", &mut pixels);
-    let m = fields::floats(line, b"taps", &mut taps);
+    let map = &mut *lent.map;
+    let n = line.lent(b"map-lent", map.len());
+    let size = line.size();
     let mut count = 0;
-    let refusal = kelontsira_canny(
-        &pixels[0..n],
+    let number = kelontsira_canny(
+        line.list(b"pixels", &mut pixels),
         size.width,
         size.height,
-        &taps[0..m],
-        levels.low,
-        levels.high,
+        line.list(b"taps", &mut taps),
+        line.number(b"low"),
+        line.number(b"high"),
         work,
         magnitude,
         gx,
         gy,
         blurred,
-        marks,
-        stack,
-        &mut map[0..lent],
+        lent.marks,
+        lent.stack,
+        &mut map[..n],
         &mut count,
     );
-    answered(rt, line, refusal, count, pending, map)?;
-    kept::walk(rt, line, blurred, marks, stack, map)
+    (number, count)
 }
 
 // A run that is to give a map has it under the case's own name, any other its number.
-fn answered(
-    rt: &impl Print,
-    line: &[u8],
-    refusal: u8,
-    count: usize,
-    pending: usize,
-    map: &[u8],
-) -> io::Result<()> {
-    if fields::has(line, b"map-after") {
+fn answered(rt: &impl Print, line: &Line, number: u8, map: &[u8]) -> io::Result<()> {
+    if line.has(b"map-after") {
         kept::first_of_map(rt, b"", line, map)?;
-        lines::number(rt, b"  its number", line, refusal)?;
-    } else {
-        lines::number(rt, b"", line, refusal)?;
-        kept::first_of_map(rt, b"  map", line, map)?;
+        return lines::number(rt, b"  its number", line, number);
     }
-    lines::count(rt, b"  count", line, b"count", count as u64)?;
-    lines::count(rt, b"  pending before", line, b"pending", pending as u64)
+    lines::number(rt, b"", line, number)?;
+    kept::first_of_map(rt, b"  map", line, map)
 }

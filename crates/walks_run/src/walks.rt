@@ -1,119 +1,58 @@
 // Walks that are accepted, at once and in three slices.
-use crate::calls;
-use crate::states::left;
-use cases::{fields, lines, wide};
-use rules::{MARK_FINISHED, Walk};
-use scratch::count_of;
+use crate::lent::Lent;
+use cases::{Line, lines};
 use std::io;
 
-pub(crate) fn run(
-    rt: &impl Print,
-    line: &[u8],
-    marks: &mut [u8],
-    stack: &mut [u32],
-    out: &mut [u8],
-) -> io::Result<()> {
-    at_once(rt, line, marks, stack, out)?;
-    in_slices(rt, line, marks, stack, out)
+pub(crate) fn run(rt: &impl Print, line: &Line, lent: &mut Lent) -> io::Result<()> {
+    at_once(rt, line, lent)?;
+    in_slices(rt, line, lent)
 }
 
 // The whole walk in one slice: its map, under the case's own name.
-fn at_once(
-    rt: &impl Print,
-    line: &[u8],
-    marks: &mut [u8],
-    stack: &mut [u32],
-    out: &mut [u8],
-) -> io::Result<()> {
-    let started = calls::start(line, marks, stack);
-    let ended = calls::slice(line, started.walk, 10, marks, stack);
-    calls::map(line, ended.walk, marks, stack, out);
-    lines::bytes(rt, b"", line, b"map", b"map-after", out)
+fn at_once(rt: &impl Print, line: &Line, lent: &mut Lent) -> io::Result<()> {
+    lent.start(line);
+    lent.slice(line, 10);
+    lent.map(line);
+    lent.show_map(rt, b"", line, b"map-after")
 }
 
-fn in_slices(
-    rt: &impl Print,
-    line: &[u8],
-    marks: &mut [u8],
-    stack: &mut [u32],
-    out: &mut [u8],
-) -> io::Result<()> {
-    let started = start(rt, line, marks, stack)?;
-    let first = slice(rt, line, started, 0, marks, stack)?;
-    early_map(rt, line, first, marks, stack, out)?;
-    end(rt, line, first, marks, stack, out)
+fn in_slices(rt: &impl Print, line: &Line, lent: &mut Lent) -> io::Result<()> {
+    start(rt, line, lent)?;
+    slice(rt, line, lent, 0)?;
+    early_map(rt, line, lent)?;
+    slice(rt, line, lent, 1)?;
+    slice(rt, line, lent, 2)?;
+    map(rt, line, lent)
 }
 
-fn start(rt: &impl Print, line: &[u8], marks: &mut [u8], stack: &mut [u32]) -> io::Result<Walk> {
-    let made = calls::start(line, marks, stack);
-    lines::number(rt, b"  start", line, made.refusal)?;
-    lines::count(rt, b"  pending", line, b"pending", made.walk.pending as u64)?;
-    left(rt, line, b"marks-after", b"stack-after", marks, stack)?;
-    Ok(made.walk)
+fn start(rt: &impl Print, line: &Line, lent: &mut Lent) -> io::Result<()> {
+    let number = lent.start(line);
+    lines::number(rt, b"  start", line, number)?;
+    lines::count(rt, b"  pending", line, b"pending", lent.walk.pending)?;
+    lent.left(rt, line, b"marks-after", b"stack-after")
 }
 
 // A map request after the first slice: refused while something is pending.
-fn early_map(
-    rt: &impl Print,
-    line: &[u8],
-    walk: Walk,
-    marks: &[u8],
-    stack: &[u32],
-    out: &mut [u8],
-) -> io::Result<()> {
-    left(rt, line, b"marks-then", b"stack-then", marks, stack)?;
-    let asked = calls::map(line, walk, marks, stack, out);
-    lines::count(rt, b"  map then", line, b"map-number", asked.refusal as u64)?;
-    lines::bytes(rt, b"  its bytes", line, b"map", b"map-then", out)
+fn early_map(rt: &impl Print, line: &Line, lent: &mut Lent) -> io::Result<()> {
+    lent.left(rt, line, b"marks-then", b"stack-then")?;
+    let number = u32::from(lent.map(line));
+    lines::count(rt, b"  map then", line, b"map-number", number)?;
+    lent.show_map(rt, b"  its bytes", line, b"map-then")
 }
 
-fn end(
-    rt: &impl Print,
-    line: &[u8],
-    walk: Walk,
-    marks: &mut [u8],
-    stack: &mut [u32],
-    out: &mut [u8],
-) -> io::Result<()> {
-    let second = slice(rt, line, walk, 1, marks, stack)?;
-    let third = slice(rt, line, second, 2, marks, stack)?;
-    map(rt, line, third, marks, stack, out)
-}
-
-fn map(
-    rt: &impl Print,
-    line: &[u8],
-    walk: Walk,
-    marks: &[u8],
-    stack: &[u32],
-    out: &mut [u8],
-) -> io::Result<()> {
-    let asked = calls::map(line, walk, marks, stack, out);
-    lines::number(rt, b"  map", line, asked.refusal)?;
-    report::number(rt, b"  pending at the end", asked.walk.pending as u64, 0)?;
-    let name = b"  the map and an entry past it";
-    lines::bytes(rt, name, line, b"map", b"map-after", out)
+fn map(rt: &impl Print, line: &Line, lent: &mut Lent) -> io::Result<()> {
+    let number = lent.map(line);
+    lines::number(rt, b"  map", line, number)?;
+    report::number(rt, b"  pending at the end", lent.walk.pending, 0)?;
+    lent.show_map(rt, b"  the map and an entry past it", line, b"map-after")
 }
 
 // The slice of the k-th budget.
-fn slice(
-    rt: &impl Print,
-    line: &[u8],
-    walk: Walk,
-    k: usize,
-    marks: &mut [u8],
-    stack: &mut [u32],
-) -> io::Result<Walk> {
-    let budget = fields::at(line, b"budgets", k);
-    let made = calls::slice(line, walk, cases::count(budget), marks, stack);
-    report::part(rt, b"  budget ", wide(budget))?;
-    let takes = fields::at(line, b"takes", k);
-    report::number(rt, b", takes", made.takes as u64, wide(takes))?;
-    let threes = fields::at(line, b"finished", k);
-    report::number(rt, b"  marks 3", finished(marks) as u64, wide(threes))?;
-    Ok(made.walk)
-}
-
-pub(crate) fn finished(marks: &[u8]) -> usize {
-    count_of(marks, MARK_FINISHED, marks.len())
+fn slice(rt: &impl Print, line: &Line, lent: &mut Lent, k: usize) -> io::Result<()> {
+    let budget: usize = line.at(b"budgets", k);
+    let (_, takes) = lent.slice(line, budget);
+    report::part(rt, b"  budget ", budget as u64)?;
+    report::number(rt, b", takes", takes, line.at(b"takes", k))?;
+    report::number(rt, b"  marks 3", lent.finished(), line.at(b"finished", k))?;
+    Ok(())
 }

@@ -1,19 +1,21 @@
 -- `slice` answers as the definition does. Assumes nothing.
-use borrow.Author.Tests.{ne_eqb}
-use mathlib.Core.Path.{sym, ◌∙◌}
-use Rattle.rules.specs.Calls as Calls
-use Rattle.rules.specs.Calls.{after_slice, slice_takes}
+use borrow.Author.Rules.{rules}
+use mathlib.Core.Path.{sym}
 use Rattle.hysteresis.proofs.Numbers.{slice_fit}
+use Rattle.hysteresis.proofs.Answering.{slice_refused, slice_made}
 use Rattle.hysteresis.proofs.slice.Goals as goal
 
-pub returns-then-refusal-ne-ACCEPTED : goal.returns-then-refusal-ne-ACCEPTED
-unfolding Calls.slice after_slice slice_takes
-returns-then-refusal-ne-ACCEPTED c = rw (← c.of_slice-refusal.ensures, ne_eqb _ _ c.if-refusal-ne-ACCEPTED.true)
+pub returns-in_err-of_slice : goal.returns-in_err-of_slice
+returns-in_err-of_slice c =
+    let a = c.args in
+    slice_refused a.walk a.budget a.marks.now a.stack.now c.from-size.ensures c.in_err-of_slice.field-0.0 (search rules) c.in_err-of_slice.ensures
 
-pub take_until-made-requires : goal.take_until-made-requires
-take_until-made-requires c = slice_fit _ c.args.budget _ (sym c.of_slice-refusal.ensures ∙ c.if-refusal-ne-ACCEPTED.false)
+pub invariant_of-walking : goal.invariant_of-walking
+invariant_of-walking c = record { fits = slice_fit _ c.args.budget _ (sym c.in_ok-of_slice.ensures) }
 
+-- the struct's buffers are those that were lent
 pub returns : goal.returns
-unfolding Calls.slice after_slice slice_takes
 returns c =
-    rw (← c.of_slice-refusal.ensures, c.if-refusal-ne-ACCEPTED.false, ← c.take_until-made.ensures.0, c.take_until-made.ensures.1)
+    let a = c.args in
+    let k = c.take_until-takes.ensures in
+    slice_made a.walk a.budget a.marks.now a.stack.now c.from-size.ensures c.in_ok-of_slice.ensures k.left k.made (search rules) (search rules)

@@ -1,21 +1,20 @@
--- `count_block` meets its contract: what it has found is what was counted since a. Assumes nothing.
+-- `count_block` meets its contract: what it has found is what was counted so far. Assumes nothing.
 use borrow.Author.Rules.{rules}
 use borrow.Author.Tests.{eq-eqb, ne_eqb}
 use native.Mathlib.Omega.{arith}
-use mathlib.Core.Path.{◌≡◌, refl}
+use Rattle.rules.specs.Picture.{tally}
 use Rattle.rules.specs.Walk.{has}
 use Rattle.rules.proofs.Tallies.{tally_yes, tally_no}
 use Rattle.scratch.proofs.count_block.Goals as goal
-use Rattle.scratch.proofs.count_block.Goals.{then-bytes-i, else-bytes-i}
+use Rattle.scratch.proofs.count_block.Goals.{then-byte-v, else-byte-v}
 
-pub loop-i-preserved : goal.loop-i-preserved
-loop-i-preserved c =
-    elim c.if-bytes-i.branch [
-      | then-bytes-i w ↦ let m = tally_yes (has c.args.v c.args.bytes.now) c.loop-i.i _ _ refl (eq-eqb _ _ w.if-bytes-i.true) refl in let k = w.found-is in search rules
-      | else-bytes-i w ↦ let m = tally_no (has c.args.v c.args.bytes.now) c.loop-i.i _ _ refl (ne_eqb _ _ w.if-bytes-i.false) refl in let k = w.found-is in search rules
+pub loop-byte-init : goal.loop-byte-init
+unfolding tally
+loop-byte-init c = search rules
+
+pub loop-byte-preserved : goal.loop-byte-preserved
+loop-byte-preserved c =
+    elim c.if-byte-v.branch [
+      | then-byte-v w ↦ (omega arith, tally_yes (has c.args.v c.args.block.now) c.loop-byte.byte-index _ _ c.loop-byte.invariant.1 (eq-eqb _ _ w.if-byte-v.true) w.found-is)
+      | else-byte-v w ↦ (omega arith, tally_no (has c.args.v c.args.block.now) c.loop-byte.byte-index _ _ c.loop-byte.invariant.1 (ne_eqb _ _ w.if-byte-v.false) w.found-is)
     ]
-
-pub returns : goal.returns
-returns c =
-    let n : c.loop-i.i ≡ c.args.e = omega arith in
-    rw n at c.loop-i.invariant.3

@@ -1,12 +1,8 @@
--- `count_block` meets its contract: what it has found is what was counted since a. Assumes nothing.
-use Prim.Native.Nat.{◌+◌, ◌-◌, ◌≤◌}
+-- `count_block` meets its contract: what it has found is what was counted so far. Assumes nothing.
+use Prim.Native.Nat.{◌≤◌}
 use mathlib.Core.Path.{◌≡◌}
 use Rattle.rules.specs.Walk.{count}
 use Rattle.scratch.proofs.count_block.Given as goal
 
-abbrev pub invariant-loop-i : goal.invariant-loop-i
-invariant-loop-i l =
-    (l.a ≤ l.i) × (l.i ≤ l.e) × (l.found ≤ l.i - l.a) × (count l.v l.bytes l.i ≡ count l.v l.bytes l.a + l.found)
-
-abbrev pub decreases-loop-i : goal.decreases-loop-i
-decreases-loop-i l = l.e - l.i
+abbrev pub invariant-loop-byte : goal.invariant-loop-byte
+invariant-loop-byte l = (l.found ≤ l.byte-index) × (l.found ≡ count l.v l.block l.byte-index)

@@ -1,18 +1,27 @@
 -- `apply_kernel` meets its contract: refused, or convolved. Assumes nothing.
 use borrow.Author.Rules.{rules}
-use mathlib.Core.Path.{sym, ◌∙◌}
+use mathlib.Core.Path.{sym, refl}
 use Rattle.rules.specs.Calls.{apply_kernel}
-use Rattle.rules.proofs.Answers.{refused_is, accepted_is}
-use Rattle.filters.proofs.Convolving.{kernel_pass}
+use Rattle.rules.specs.Filters.{convolved_at}
+use Rattle.rules.proofs.Answers.{named, refused_is, accepted_is}
+use Rattle.filters.proofs.Convolving.{Single, single}
 use Rattle.filters.proofs.convolution.apply_kernel.Goals as goal
 
-pub returns-then-refusal-ne-ACCEPTED : goal.returns-then-refusal-ne-ACCEPTED
+pub returns-in_err-of_kernel : goal.returns-in_err-of_kernel
 unfolding apply_kernel
-returns-then-refusal-ne-ACCEPTED c = refused_is _ _ c.of_kernel-refusal.ensures _ _ c.if-refusal-ne-ACCEPTED.true
+returns-in_err-of_kernel c = search (rules, refused_is, named)
 
-pub convolve-requires : goal.convolve-requires
-convolve-requires c = (kernel_pass (sym c.of_kernel-refusal.ensures ∙ c.if-refusal-ne-ACCEPTED.false), search rules)
+pub invariant_of-convolution : goal.invariant_of-convolution
+invariant_of-convolution c =
+    -- what the table grants where no row applies
+    let t : Single c.args.size c.args.kernel c.args.pixels.now c.args.weights.now c.args.out.now = single (sym c.in_ok-of_kernel.ensures) in
+    record { within = t.pass }
+
+pub bytes_to-requires : goal.bytes_to-requires
+bytes_to-requires c =
+    let t : Single c.args.size c.args.kernel c.args.pixels.now c.args.weights.now c.args.out.now = single (sym c.in_ok-of_kernel.ensures) in
+    (t.room, search rules)
 
 pub returns : goal.returns
-unfolding apply_kernel
-returns c = accepted_is _ _ c.of_kernel-refusal.ensures _ _ _ c.if-refusal-ne-ACCEPTED.false c.convolve.ensures
+unfolding apply_kernel convolved_at
+returns c = accepted_is _ _ c.in_ok-of_kernel.ensures _ _ _ refl c.bytes_to.ensures

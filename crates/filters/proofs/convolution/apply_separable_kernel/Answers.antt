@@ -1,36 +1,43 @@
 -- `apply_separable_kernel` meets its contract: refused, or both passes and the work buffer cleared. Assumes nothing.
 use borrow.Author.Rules.{rules}
-use native.Mathlib.Omega.{arith}
-use native.Mathlib.Nat.{mul-le-mul}
-use mathlib.Core.Path.{sym, ◌∙◌}
+use mathlib.Core.Path.{sym, refl}
 use Rattle.rules.specs.Calls.{apply_separable_kernel}
-use Rattle.rules.proofs.Answers.{refused_is, accepted_is}
-use Rattle.filters.proofs.Convolving.{Taps, taps, both_passes}
+use Rattle.rules.proofs.Answers.{named, refused_is, accepted_is}
+use Rattle.filters.proofs.Convolving.{Taps, taps, still_kernelled, both_passes}
 use Rattle.filters.proofs.convolution.apply_separable_kernel.Goals as goal
+use Rattle.filters.proofs.convolution.apply_separable_kernel.Goals.{In_ok-of_separable}
 
-pub returns-then-refusal-ne-ACCEPTED : goal.returns-then-refusal-ne-ACCEPTED
+-- what the table grants where no row applies
+granted : (c : In_ok-of_separable) → Taps c.args.size c.args.kernel c.args.pixels.now c.args.horizontal.now c.args.vertical.now c.args.work.now c.args.out.now
+granted c = taps (sym c.in_ok-of_separable.ensures)
+
+pub returns-in_err-of_separable : goal.returns-in_err-of_separable
 unfolding apply_separable_kernel
-returns-then-refusal-ne-ACCEPTED c = refused_is _ _ c.of_separable-refusal.ensures _ _ c.if-refusal-ne-ACCEPTED.true
+returns-in_err-of_separable c = search (rules, refused_is, named)
 
-pub horizontal_pass-requires : goal.horizontal_pass-requires
-horizontal_pass-requires c =
-    -- what the table grants where no row applies
-    let t : Taps c.args.size c.args.kernel c.args.pixels.now c.args.horizontal.now c.args.vertical.now c.args.work.now c.args.out.now = taps (sym c.of_separable-refusal.ensures ∙ c.if-refusal-ne-ACCEPTED.false) in
-    t.row_pass
+pub invariant_of-across : goal.invariant_of-across
+invariant_of-across c =
+    let t = granted (goal.at.invariant_of-across c).In_ok-of_separable in
+    record { within = t.row_pass }
 
-pub vertical_pass-requires : goal.vertical_pass-requires
-vertical_pass-requires c =
-    let t : Taps c.args.size c.args.kernel c.args.pixels.now c.args.horizontal.now c.args.vertical.now c.args.work.now c.args.out.now = taps (sym c.of_separable-refusal.ensures ∙ c.if-refusal-ne-ACCEPTED.false) in
-    (record { whole = t.column_pass.whole; source = search rules }, search rules)
+pub sums_to-requires : goal.sums_to-requires
+sums_to-requires c =
+    let t = granted (goal.at.sums_to-requires c).In_ok-of_separable in
+    t.column_pass.long
 
-pub overflow_mul-size : goal.overflow_mul-size
-overflow_mul-size c =
-    let t : Taps c.args.size c.args.kernel c.args.pixels.now c.args.horizontal.now c.args.vertical.now c.args.work.now c.args.out.now = taps (sym c.of_separable-refusal.ensures ∙ c.if-refusal-ne-ACCEPTED.false) in
-    omega (arith, mul-le-mul t.row_pass.whole.width_fits t.row_pass.whole.height_fits)
+pub invariant_of-down : goal.invariant_of-down
+invariant_of-down c =
+    let t = granted (goal.at.invariant_of-down c).In_ok-of_separable in
+    record { within = still_kernelled t.column_pass c.sums_to.auto.work }
+
+pub bytes_to-requires : goal.bytes_to-requires
+bytes_to-requires c =
+    let t = granted (goal.at.bytes_to-requires c).In_ok-of_separable in
+    (t.room, search rules)
 
 pub returns : goal.returns
 unfolding apply_separable_kernel
 returns c =
-    let t : Taps c.args.size c.args.kernel c.args.pixels.now c.args.horizontal.now c.args.vertical.now c.args.work.now c.args.out.now = taps (sym c.of_separable-refusal.ensures ∙ c.if-refusal-ne-ACCEPTED.false) in
-    accepted_is _ _ c.of_separable-refusal.ensures _ _ _ c.if-refusal-ne-ACCEPTED.false
-    (both_passes _ t c.horizontal_pass.ensures c.vertical_pass.ensures c.clear_floats.ensures)
+    let t = granted (goal.at.returns c).In_ok-of_separable in
+    accepted_is _ _ c.in_ok-of_separable.ensures _ _ _ refl
+    (both_passes _ t c.sums_to.ensures c.bytes_to.ensures c.clear.ensures)

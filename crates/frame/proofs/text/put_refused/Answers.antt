@@ -8,13 +8,14 @@ use Rattle.frame.proofs.text.put_refused.Goals as goal
 -- the text has room for the word and the number
 pub put_field-requires : goal.put_field-requires
 put_field-requires c =
-    omega (arith, length_refused c.args.number, four_digits c.args.number (omega arith), c.requires, c.put_word-at.ensures.0, c.put_word-at.auto.text)
+    omega (arith, length_refused c.from-number.result, four_digits c.from-number.result (omega arith), c.requires, c.put_word-at.ensures.0, c.put_word-at.auto.text)
 
 pub returns : goal.returns
 returns c =
     let v = c.put_word-at in
     let p : Put c.args.text.now 0 refused_word v.result v.new.text = record { place = v.ensures.0; is = v.ensures.1 } in
-    let room : length (refused_text c.args.number) ≤ length c.args.text.now =
-    omega (arith, length_refused c.args.number, four_digits c.args.number (omega arith), c.requires) in
-    from_first (refused_text c.args.number) c.args.text.now room
-    (rw (refused_fields c.args.number) at (field_more c.args.number newline p c.put_field.ensures))
+    let room : length (refused_text c.from-number.result) ≤ length c.args.text.now =
+    omega (arith, length_refused c.from-number.result, four_digits c.from-number.result (omega arith), c.requires) in
+    rw (← c.from-number.ensures)
+    (from_first (refused_text c.from-number.result) c.args.text.now room
+    (rw (refused_fields c.from-number.result) at (field_more c.from-number.result newline p c.put_field.ensures)))

@@ -10,7 +10,7 @@ pub overflow_add-line : goal.overflow_add-line
 overflow_add-line c = omega (arith, c.requires.wide)
 
 pub loop-y-init : goal.loop-y-init
-loop-y-init c = (search rules, rw (zero-mul (c.args.size.width + 1)) filling_start)
+loop-y-init c = rw (zero-mul (c.args.size.width + 1)) filling_start
 
 -- row y stands within the map
 pub overflow_mul-from : goal.overflow_mul-from
@@ -27,20 +27,20 @@ pub overflow_add-end : goal.overflow_add-end
 overflow_add-end c = omega (arith, room _ _ _ c.requires c.loop-y-test.true)
 
 pub slice_bounds-put_row-end-in-loop-y : goal.slice_bounds-put_row-end-in-loop-y
-slice_bounds-put_row-end-in-loop-y c = omega (arith, room _ _ _ c.requires c.loop-y-test.true, c.loop-y.invariant.1.same)
+slice_bounds-put_row-end-in-loop-y c = omega (arith, room _ _ _ c.requires c.loop-y-test.true, c.loop-y.invariant.same)
 
 pub put_row-requires : goal.put_row-requires
 put_row-requires c =
     let line = c.args.size.width + 1 in
     let fits = room _ _ _ c.requires c.loop-y-test.true in
     let a = row_long c.args.size c.args.map.now c.loop-y.y c.requires c.loop-y-test.true in
-    let b = part_length c.loop-y.text (c.loop-y.y * line) (c.loop-y.y * line + line) line refl (omega (arith, fits, c.loop-y.invariant.1.same)) in
+    let b = part_length c.loop-y.text (c.loop-y.y * line) (c.loop-y.y * line + line) line refl (omega (arith, fits, c.loop-y.invariant.same)) in
     omega (arith, a, b)
 
 pub loop-y-preserved : goal.loop-y-preserved
-loop-y-preserved c = (search rules, rows_more _ _ _ c.requires c.loop-y-test.true c.loop-y.invariant.1 c.put_row.ensures)
+loop-y-preserved c = rows_more _ _ _ c.requires c.loop-y-test.true c.loop-y.invariant c.put_row.ensures
 
 pub returns : goal.returns
 returns c =
     let e : c.loop-y.y ≡ c.args.size.height = omega arith in
-    filling_end c.loop-y.invariant.1 (rw e (search rules)) ∙ rw (rows_are c.args.size c.args.map.now)
+    filling_end c.loop-y.invariant (rw e (search rules)) ∙ rw (rows_are c.args.size c.args.map.now)

@@ -1,12 +1,9 @@
 -- `are_magnitudes`: all so far, entry by entry. Assumes nothing.
-use Rattle.std.proofs.Common.{◌≡◌, ◌-◌, ◌≤◌, true}
+use Rattle.std.proofs.Common.{◌≡◌, true}
 use lib.Ieee.{nan}
 use Rattle.rules.specs.Calls.{magnitude_at}
 use Rattle.gradient.specs.Entries.{AllBelow}
 use Rattle.gradient.proofs.magnitude.are_magnitudes.Given as goal
 
 abbrev pub invariant-loop-i : goal.invariant-loop-i
-invariant-loop-i l = (l.i ≤ l.n) × (l.all ≡ true → AllBelow nan l.i (magnitude_at l.gx l.gy) l.magnitude)
-
-abbrev pub decreases-loop-i : goal.decreases-loop-i
-decreases-loop-i l = l.n - l.i
+invariant-loop-i l = l.all ≡ true → AllBelow nan l.i (magnitude_at l.gx l.gy) l.magnitude

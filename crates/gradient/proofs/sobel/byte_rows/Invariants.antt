@@ -1,11 +1,8 @@
 -- `byte_rows`: the buffer, row by row. Assumes nothing.
-use Rattle.std.proofs.Common.{◌-◌}
+use Rattle.std.proofs.Common.{◌*◌}
 use Rattle.rules.specs.Calls.{sobel_at}
 use Rattle.rules.proofs.ByRows.{ByRows}
 use Rattle.gradient.proofs.sobel.byte_rows.Given as goal
 
 abbrev pub invariant-loop-y : goal.invariant-loop-y
-invariant-loop-y l = ByRows l.size l.y l.start (sobel_at l.size l.border l.pixels) l.initial.out l.out
-
-abbrev pub decreases-loop-y : goal.decreases-loop-y
-decreases-loop-y l = l.size.height - l.y
+invariant-loop-y l = ByRows l.size l.y (l.y * l.size.width) (sobel_at l.size l.border l.pixels) l.initial.out l.out

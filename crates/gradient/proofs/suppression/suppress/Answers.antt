@@ -10,4 +10,4 @@ returns-then-size c =
     let d = c.args.size in
     outer_are d _ _ _ (λ i. i % d.width) (λ i. i / d.width) (area d) _ _ (omega arith)
     (λ i h p. ⊎_elim (λ e. omega (arith, ltb-true)) (λ e. omega (arith, ltb-true)) (either (ltb d.width 3) (ltb d.height 3) c.if-size.true))
-    c.clear_floats.ensures
+    c.clear.ensures

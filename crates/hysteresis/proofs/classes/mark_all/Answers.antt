@@ -7,7 +7,7 @@ pub loop-i-init : goal.loop-i-init
 loop-i-init c = filling_start
 
 pub loop-i-preserved : goal.loop-i-preserved
-loop-i-preserved c = filling_more (omega arith) c.loop-i-test.true c.loop-i.invariant c.mark_of.ensures
+loop-i-preserved c = filling_more (omega arith) (omega arith) c.loop-i.invariant c.mark_of.ensures
 
 pub returns : goal.returns
-returns c = filling_end c.loop-i.invariant c.loop-i-test.false
+returns c = filling_end c.loop-i.invariant (omega arith)

@@ -1,5 +1,4 @@
 -- `stack_all` meets its contract: pixel after pixel, and no more are pending than were looked at. Assumes nothing.
-use Prim.Native.Nat.{◌-◌, ◌≤◌}
 use mathlib.Core.Path.{◌≡◌}
 use lib.ListN.{length}
 use Rattle.rules.specs.Walk.{has}
@@ -8,7 +7,4 @@ use Rattle.hysteresis.proofs.classes.stack_all.Given as goal
 
 abbrev pub invariant-loop-i : goal.invariant-loop-i
 invariant-loop-i l =
-    (l.i ≤ l.n) × (length l.stack ≡ length l.initial.stack) × ((l.stack, l.pending) ≡ stacked (has 2 l.marks) l.i l.initial.stack)
-
-abbrev pub decreases-loop-i : goal.decreases-loop-i
-decreases-loop-i l = l.n - l.i
+    (length l.stack ≡ length l.initial.stack) × ((l.stack, l.pending) ≡ stacked (has 2 l.marks) l.i l.initial.stack)

@@ -2,8 +2,8 @@
 use Rattle.kelontsira.proofs.Modes.{unknown, known}
 use Rattle.kelontsira.proofs.filtering.kelontsira_apply_kernel.Goals as goal
 
-pub returns-then-border-gt-LAST_MODE : goal.returns-then-border-gt-LAST_MODE
-returns-then-border-gt-LAST_MODE c = search unknown
+pub returns-in_default : goal.returns-in_default
+returns-in_default c = unknown _ _ _ c.in_default.ensures
 
 pub returns : goal.returns
-returns c = search known
+returns c = known _ _ _ _ _ _ _ c.in-Some.ensures c.number.ensures c.apply_kernel.ensures

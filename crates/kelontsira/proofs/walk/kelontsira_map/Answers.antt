@@ -3,4 +3,4 @@ use Rattle.kelontsira.proofs.Lent.{map_told}
 use Rattle.kelontsira.proofs.walk.kelontsira_map.Goals as goal
 
 pub returns : goal.returns
-returns c = map_told _ _ _ c.map-mapped.ensures
+returns c = search map_told

@@ -1,31 +1,24 @@
 -- `MedianFilter::apply` meets its contract: refused, or every row. Assumes nothing.
-use mathlib.Core.Path.{◌≡◌, sym, ◌∙◌}
-use mathlib.Core.List.{List}
-use Prim.Native.Nat.{ℕ, ◌<◌, ◌≤◌}
-use Rattle.rules.specs.Limits.{max_window}
-use Rattle.rules.specs.Accepted.{Room}
-use Rattle.rules.specs.Refusals.{first, median_rows}
+use mathlib.Core.Path.{◌≡◌, refl}
+use borrow.Author.Rules.{rules}
+use borrow.Author.Tests.{ne_eqb}
+use Prim.Native.Nat.{ℕ}
+use Rattle.std.specs.Prelude.{Result, Err}
 use Rattle.rules.specs.Calls.{median}
-use Rattle.rules.specs.declared.Size.{Size}
-use Rattle.rules.proofs.Answers.{refused_is, accepted_is}
-use Rattle.rules.proofs.Rows.{off, side_off, input_off, count_off, room_off}
-use Rattle.refusals.specs.Rows.{Picture}
+use Rattle.rules.specs.Answers.{number_of, number}
+use Rattle.rules.specs.Calls.{answered}
+use Rattle.rules.specs.declared.refusal.Refusal.{Refusal}
+use Rattle.rules.proofs.Answers.{named, accepted_is}
 use Rattle.median.proofs.MedianFilter.apply.Goals as goal
 
--- what the table grants where no row applies
-granted : (d : Size) (w : ℕ) (pixels out : List ℕ) → first (median_rows d w pixels out) ≡ 0 → Picture d pixels × (0 < w) × (w ≤ max_window) × Room d out
-granted d w pixels out z =
-    let o = off (median_rows d w pixels out) tt z in
-    let k = count_off max_window w o.1.1.0 in
-    (record { sides = side_off d o.0; long = input_off d pixels o.1.0 }, k.some, k.few, room_off d out o.1.1.1.0)
+-- what a refused call answers, by the refusal of its rows
+refused_err : {A T : Type 0} (n : ℕ) (r : Refusal) {a : Result T Refusal} (done kept : A) → a ≡ Err r → number_of r ≡ n → (number a, kept) ≡ answered n done kept
+refused_err n r done kept e m = rw (e, ← m, ne_eqb (number_of r) 0 (named r))
 
-pub returns-then-refusal-ne-ACCEPTED : goal.returns-then-refusal-ne-ACCEPTED
+pub returns-in_err-of_median : goal.returns-in_err-of_median
 unfolding median
-returns-then-refusal-ne-ACCEPTED c = refused_is _ _ c.of_median-refusal.ensures _ _ c.if-refusal-ne-ACCEPTED.true
-
-pub median_rows-requires : goal.median_rows-requires
-median_rows-requires c = granted _ _ _ c.args.out.now (sym c.of_median-refusal.ensures ∙ c.if-refusal-ne-ACCEPTED.false)
+returns-in_err-of_median c = refused_err _ c.in_err-of_median.field-0.0 _ _ (search rules) c.in_err-of_median.ensures
 
 pub returns : goal.returns
 unfolding median
-returns c = accepted_is _ _ c.of_median-refusal.ensures _ _ _ c.if-refusal-ne-ACCEPTED.false c.median_rows.ensures
+returns c = accepted_is _ _ c.in_ok-of_median.ensures _ _ _ refl c.median_rows.ensures

@@ -1,5 +1,5 @@
 -- `weigh`: the sum so far, which nine terms of at most 510 keep within an i16. Assumes nothing.
-use Rattle.std.proofs.Common.{◌-◌, ◌*◌, ◌≡◌, ◌≤◌}
+use Rattle.std.proofs.Common.{◌*◌, ◌≡◌, ◌≤◌}
 use lib.IntN.{nat_abs}
 use Rattle.rules.specs.Gradient.{sum_z}
 use Rattle.pixel.proofs.Weighing.{term}
@@ -7,7 +7,4 @@ use Rattle.pixel.proofs.components.weigh.Given as goal
 
 abbrev pub invariant-loop-j : goal.invariant-loop-j
 invariant-loop-j l =
-    (l.j ≤ 9) × (nat_abs (sum_z (term l.weights l.nine) l.j) ≤ 510 * l.j) × (l.sum ≡ sum_z (term l.weights l.nine) l.j)
-
-abbrev pub decreases-loop-j : goal.decreases-loop-j
-decreases-loop-j l = 9 - l.j
+    (nat_abs (sum_z (term l.weights l.nine) l.j) ≤ 510 * l.j) × (l.sum ≡ sum_z (term l.weights l.nine) l.j)

@@ -1,21 +1,10 @@
--- `any_beyond` is the definition's test. Assumes nothing.
+-- `any_beyond` is the test of each index. Assumes nothing.
+use lib.Dec.{leb}
 use borrow.Author.Rules.{rules}
-use borrow.Author.Tests.{le-leb, lt-leb}
-use native.Mathlib.Omega.{arith}
-use mathlib.Core.Path.{refl, sym, ap, ◌∙◌}
-use Rattle.rules.specs.Picture.{any_below}
-use Rattle.rules.proofs.Tests.{any_more, some_any}
+use borrow.Author.Tests.{tests}
+use Rattle.std.proofs.lemmas.Iterator.{YieldsList-from_slice}
+use Rattle.std.proofs.lemmas.Iterator.Search.{any_from_yields_List}
 use Rattle.refusals.proofs.walk.any_beyond.Goals as goal
 
-pub loop-i-init : goal.loop-i-init
-unfolding any_below
-loop-i-init c = (search rules, refl)
-
-pub returns-then-n-stack : goal.returns-then-n-stack
-returns-then-n-stack c = sym (some_any _ _ c.loop-i.i (omega arith) (le-leb _ _ c.if-n-stack.true))
-
-pub loop-i-preserved : goal.loop-i-preserved
-loop-i-preserved c = (search rules, any_more _ _ _ _ c.loop-i.invariant.1 (sym (lt-leb _ _ c.if-n-stack.false)))
-
 pub returns : goal.returns
-returns c = c.loop-i.invariant.1 ∙ ap (any_below _) (omega arith)
+returns c = any_from_yields_List (leb c.args.n) _ _ _ c.any.ensures.ran (YieldsList-from_slice c.args.indexes.now cc) (λ x b q k. search (rules, tests))

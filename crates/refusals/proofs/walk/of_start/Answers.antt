@@ -1,27 +1,28 @@
--- `of_start` is the first row that applies. Assumes nothing.
-use Rattle.rules.proofs.Rows.{rows, told_or}
+-- Its thresholds' two rows are one check. Assumes nothing.
+use mathlib.Core.Path.{◌≡◌}
+use mathlib.Core.List.{[], ◌∷◌}
+use borrow.Author.Rules.{rules}
+use Rattle.rules.specs.Answers.{number}
+use Rattle.rules.specs.Refusals.{threshold_row, order_row, room_row, first}
+use Rattle.refusals.proofs.Down.{ended, passed}
 use Rattle.refusals.proofs.walk.of_start.Goals as goal
 
-pub returns-then-side_over : goal.returns-then-side_over
-returns-then-side_over c = search rows
+pub returns-in_err-check_thresholds : goal.returns-in_err-check_thresholds
+returns-in_err-check_thresholds c =
+    let a = c.args in
+    let e = ended (threshold_row a.thresholds ∷ order_row a.thresholds ∷ []) (room_row a.size a.marks.now ∷ room_row a.size a.stack.now ∷ []) c.in_err-check_thresholds.field-0.0 c.in_err-check_thresholds.ensures in
+    search (rules, e)
 
-pub overflow_mul-n : goal.overflow_mul-n
-overflow_mul-n c = search rows
-
-pub returns-then-magnitudes-n : goal.returns-then-magnitudes-n
-returns-then-magnitudes-n c = search rows
-
-pub returns-then-bad_threshold : goal.returns-then-bad_threshold
-returns-then-bad_threshold c = search (rows, told_or)
-
-pub returns-then-thresholds : goal.returns-then-thresholds
-returns-then-thresholds c = search (rows, told_or)
-
-pub returns-then-marks-n : goal.returns-then-marks-n
-returns-then-marks-n c = search (rows, told_or) depth 9
-
-pub returns-then-stack-n : goal.returns-then-stack-n
-returns-then-stack-n c = search (rows, told_or c.bad_threshold.ensures c.bad_threshold-2.ensures c.if-bad_threshold.false) depth 9
+pub returns-in_err-check_room : goal.returns-in_err-check_room
+returns-in_err-check_room c =
+    let a = c.args in
+    let q : number c.from_residual-in_err-check_room.result ≡ first (room_row a.size a.marks.now ∷ room_row a.size a.stack.now ∷ []) = search rules in
+    let e = passed (threshold_row a.thresholds ∷ order_row a.thresholds ∷ []) (room_row a.size a.marks.now ∷ room_row a.size a.stack.now ∷ []) (number c.from_residual-in_err-check_room.result) tt c.in_ok-check_thresholds.ensures q in
+    search (rules, e)
 
 pub returns : goal.returns
-returns c = search (rows, told_or c.bad_threshold.ensures c.bad_threshold-2.ensures c.if-bad_threshold.false) depth 9
+returns c =
+    let a = c.args in
+    let q : number c.check_room-2.result ≡ first (room_row a.size a.marks.now ∷ room_row a.size a.stack.now ∷ []) = search rules in
+    let e = passed (threshold_row a.thresholds ∷ order_row a.thresholds ∷ []) (room_row a.size a.marks.now ∷ room_row a.size a.stack.now ∷ []) (number c.check_room-2.result) tt c.in_ok-check_thresholds.ensures q in
+    search (rules, e)
