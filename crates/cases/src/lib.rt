@@ -22,8 +22,8 @@ use std::io::Read;
 pub use text::Text;
 
 // Reads until the buffer is full or the input ends; how many bytes. What comes after a full buffer is not read. By hand: read_exact takes
-// an input that ends early for an error, read_to_end reads into a Vec, which is on the heap, and with copy, by which edges reads, the
-// proof of the clause stayed open.
+// an input that ends early for an error, read_to_end reads into a Vec, which is on the heap, and with copy, by which frame_run reads its
+// files, the proof of the clause stayed open.
 pub fn read_full(from: &mut impl Read, buffer: &mut [u8]) -> io::Result<usize>
     ensures { IfOk result (λ n. n ≤ length buffer.new) }
 {

@@ -4,7 +4,7 @@
 // not there has no values, and the number 0.
 ghost use Rattle.std.specs.Prelude.{◌≡◌, ◌≤◌, ◌<◌, IfSome, length};
 
-use crate::number::{Number, digits, pattern};
+use crate::number::{Number, digits, pattern, turn};
 use crate::row::kth;
 use crate::words::{COLON, NEWLINE, after_space, after_word, place_of, split_word};
 use rules::Size;
@@ -66,12 +66,14 @@ impl<'a> Line<'a> {
     pub fn list<'b, T: Number>(&self, name: &[u8], out: &'b mut [T]) -> &'b mut [T]
         ensures { length result.now ≤ length out.old }
     {
-        let n = self.fill(name, out);
+        let mut room = [0u32; ROOM];
+        let numbers = self.fill(name, &mut room);
+        let n = turn(&room[..numbers], out);
         &mut out[..n]
     }
 
-    // Writes a field's values over the first entries of a buffer; how many.
-    fn fill<T: Number>(&self, name: &[u8], out: &mut [T]) -> usize
+    // Writes a field's numbers over the first entries of a buffer; how many. `turn` makes of them what each type has, and promises each entry.
+    fn fill(&self, name: &[u8], out: &mut [u32]) -> usize
         ensures { (result ≤ length out.new) × (length out.new ≡ length out.old) }
     {
         let mut n = 0;
@@ -88,7 +90,8 @@ impl<'a> Line<'a> {
         ensures { 1922 ≤ k → result ≡ T.of 0 }
     {
         let mut room = [0u32; ROOM];
-        T::from_pattern(kth(self.list(name, &mut room), k))
+        let numbers = self.fill(name, &mut room);
+        T::from_pattern(kth(&room[..numbers], k))
     }
 
     // How many of n entries are lent: what the field says, and without it all.
@@ -164,11 +167,11 @@ impl<'a> Value<'a> {
     }
 
     // Writes the numbers, as far as there is room; how many.
-    fn put<T: Number>(&self, out: &mut [T]) -> usize
+    fn put(&self, out: &mut [u32]) -> usize
         ensures { (result ≤ length out.new) × (length out.new ≡ length out.old) }
     {
         for (entry, k) in out.iter_mut().zip(0..self.count) {
-            *entry = T::from_pattern(pattern(self.word, self.step.wrapping_mul(k)));
+            *entry = pattern(self.word, self.step.wrapping_mul(k));
         }
         out.len().min(self.count as usize)
     }

@@ -65,4 +65,4 @@ pub record Block (d : Size) (x y : ℕ) (sums : List Float) : Type 0 where
 
 -- how many sums are kept at a time, where they have no lent place
 abbrev pub block_length : ℕ
-block_length = 128
+block_length = 108

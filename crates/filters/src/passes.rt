@@ -8,8 +8,8 @@ ghost use Rattle.filters.specs.Blocks.{sum_at, block_length};
 use crate::byte::quantize_row;
 use crate::sums::{Convolution, Sample};
 
-// How many sums are kept at a time, in `sums`.
-pub(crate) const BLOCK: usize = 128;
+// How many sums are kept at a time, in `sums`: so many that the calls stay within the stack that docs/FIRMWARE.md says is enough.
+pub(crate) const BLOCK: usize = 108;
 
 impl<T: Sample> Convolution<'_, T> {
     // The sums of every pixel, which stay f32 (01.Border.8).
@@ -21,6 +21,9 @@ impl<T: Sample> Convolution<'_, T> {
             work.old }
     {
         let width = self.size.width;
+        if width == 0 {
+            return;
+        }
         for y in 0..self.size.height {
             let a = y * width;
             let e = a + width;
@@ -58,6 +61,9 @@ impl<T: Sample> Convolution<'_, T> {
             out.old }
     {
         let width = self.size.width;
+        if width == 0 {
+            return;
+        }
         for y in 0..self.size.height {
             let a = y * width;
             let e = a + width;

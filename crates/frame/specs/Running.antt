@@ -25,7 +25,13 @@ pub record Sized (d : Size) (map : List ℕ) : Type 0 where
   pub small : area d ≤ max_frame_area
   pub room : max_frame_area ≤ length map
 
--- a file that keeps the layout, its tap count, and a map of as many entries
+-- a file that keeps the layout, and its tap count, which a run takes
+pub record Tapped (file : List ℕ) (count : ℕ) : Type 0 where
+  pub keeps : breach file ≡ false
+  pub counted : count ≡ tap_count file
+  pub few : count ≤ max_taps
+
+-- such a file, and a map of as many entries as the largest
 pub record Framed (file : List ℕ) (count : ℕ) (map : List ℕ) : Type 0 where
   pub keeps : breach file ≡ false
   pub counted : count ≡ tap_count file

@@ -9,7 +9,7 @@ ghost use Rattle.std.specs.Prelude.{◌≡◌, ◌≤◌, length, MatchResult};
 ghost use Rattle.rules.specs.Answers.{number_of};
 ghost use Rattle.rules.specs.Frame.{file_room, placed, printed, printout, refused_text};
 ghost use Rattle.frame.specs.Room.{text_room};
-ghost use Rattle.frame.specs.Running.{max_frame_area, Edges};
+ghost use Rattle.frame.specs.Running.{Edges, Framed, Tapped};
 
 use layout::{TAP_COUNT, breach, size_of, wide};
 use rules::{MAX_FRAME_LENGTH, MAX_TAPS, Refusal};
@@ -22,11 +22,10 @@ pub const FILE_ROOM: usize = MAX_FRAME_LENGTH + 1;
 // Room for a printout: what the longest takes, 48 rows of 49 bytes behind "edges 48 48 2304".
 pub const TEXT_ROOM: usize = 2369;
 
-// The count of edges of a frame file of any bytes, and its map. A breach of the layout comes first. More taps than a run takes are told by
+// How many taps a frame file of any bytes has, if it can be run. A breach of the layout comes first. More taps than a run takes are told by
 // their count, without decoding them: the layout has granted the tests that come before that one.
-fn edges_of(file: &[u8], map: &mut [u8]) -> Result<usize, Refusal>
-    requires { max_frame_area ≤ length map.old }
-    ensures { MatchResult result (Edges file.now map.new) (λ refusal. printout file.now ≡ refused_text (number_of refusal)) }
+fn taps_of(file: &[u8]) -> Result<usize, Refusal>
+    ensures { MatchResult result (Tapped file.now) (λ refusal. printout file.now ≡ refused_text (number_of refusal)) }
 {
     if breach(file) {
         return Err(Refusal::Layout);
@@ -35,7 +34,27 @@ fn edges_of(file: &[u8], map: &mut [u8]) -> Result<usize, Refusal>
     if MAX_TAPS < taps {
         return Err(Refusal::Count);
     }
+    Ok(taps)
+}
+
+// The count of edges of such a file, and its map.
+fn edges_of(file: &[u8], taps: usize, map: &mut [u8]) -> Result<usize, Refusal>
+    requires { Framed file.now taps map.old }
+    ensures { MatchResult result (Edges file.now map.new) (λ refusal. printout file.now ≡ refused_text (number_of refusal)) }
+{
     run_file(file, taps, map)
+}
+
+// Writes its printout. The map stands here, so that a file that can't be run pays for none.
+fn print_run(file: &[u8], taps: usize, text: &mut [u8]) -> usize
+    requires { Tapped file.now taps × (text_room ≤ length text.old) }
+    ensures { (result, text.new) ≡ placed (printout file.now) text.old }
+{
+    let mut map = [0u8; MAX_AREA];
+    match edges_of(file, taps, &mut map) {
+        Ok(count) => put_edges(size_of(file), count, &map, text),
+        Err(refusal) => put_refused(refusal, text),
+    }
 }
 
 // Writes the printout of a frame file of any bytes.
@@ -43,9 +62,8 @@ fn print_file(file: &[u8], text: &mut [u8]) -> usize
     requires { text_room ≤ length text.old }
     ensures { (result, text.new) ≡ placed (printout file.now) text.old }
 {
-    let mut map = [0u8; MAX_AREA];
-    match edges_of(file, &mut map) {
-        Ok(count) => put_edges(size_of(file), count, &map, text),
+    match taps_of(file) {
+        Ok(taps) => print_run(file, taps, text),
         Err(refusal) => put_refused(refusal, text),
     }
 }

@@ -26,7 +26,7 @@ use Rattle.border.proofs.Reading.{placed_is, read_in_lem, read_is}
 use Rattle.pixel.specs.Components.{component, nine_energy}
 use Rattle.pixel.specs.Halving.{held}
 use Rattle.pixel.proofs.Halving.{held_byte}
-use Rattle.gradient.specs.Nine.{Three, three_about, nine_about, row_in, nine_of, nine_in, HasBeside}
+use Rattle.gradient.specs.Nine.{Three, three_about, nine_about, row_in, nine_of, nine_in}
 
 pub nine_same : {a b c d e f g h i a' b' c' d' e' f' g' h' i' : ℕ} → a ≡ a' → b ≡ b' → c ≡ c' → d ≡ d' → e ≡ e' → f ≡ f' → g ≡ g' → h ≡ h' → i ≡ i'
     → ◌≡◌ {A = List ℕ} (a ∷ b ∷ c ∷ d ∷ e ∷ f ∷ g ∷ h ∷ i ∷ []) (a' ∷ b' ∷ c' ∷ d' ∷ e' ∷ f' ∷ g' ∷ h' ∷ i' ∷ [])
@@ -40,10 +40,10 @@ own mode at c side e h l =
     rw (placed_is mode (pos at -ℤ pos 1) side (omega arith) l, diff at 1 (omega arith), p, resolved_inside mode c side h)
 
 -- the columns beside an inner column are its own
-pub beside_is : (t : Three) (x : ℕ) → length t.row ≤ max_side → HasBeside t x 1 → nine_of t (x - 1) x (x + 1) ≡ nine_in t x
+pub beside_is : (t : Three) (x : ℕ) → 0 < x → x + 1 < length t.row → length t.row ≤ max_side → nine_of t (x - 1) x (x + 1) ≡ nine_in t x
 unfolding nine_in
-beside_is t x l h =
-    rw (own t.mode (x + 0) (x - 1) (length t.row) (omega arith) (omega (arith, h.in_row)) l, own t.mode (x + 2) (x + 1) (length t.row) (omega arith) h.in_row l)
+beside_is t x h k l =
+    rw (own t.mode (x + 0) (x - 1) (length t.row) (omega arith) (omega arith) l, own t.mode (x + 2) (x + 1) (length t.row) (omega arith) k l)
 
 -- ---- rows
 

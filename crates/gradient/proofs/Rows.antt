@@ -5,11 +5,11 @@ use Prim.Native.Nat.{ℕ, ◌+◌, ◌-◌, ◌*◌, ◌<◌, ◌≤◌}
 use native.Mathlib.Omega.{arith}
 use lib.ListN.{length, set}
 use borrow.Rule.Slice.PartMut.{put_mid, mid_of}
-use Rattle.rules.specs.Picture.{area, filled}
+use Rattle.rules.specs.Picture.{area, by_pixel, filled}
 use Rattle.rules.specs.declared.Size.{Size}
 use Rattle.rules.proofs.ByRows.{ByRows, by_rows_start, by_rows_more}
 use native.Mathlib.Nat.{add-mul, zero-mul}
-use Rattle.rules.proofs.Fill.{Filling, filling_more, fill_whole, length_filled}
+use Rattle.rules.proofs.Fill.{Filling, filling_more, filling_end, fill_whole, length_filled}
 use Rattle.rules.specs.Gradient.{gx_table, gy_table}
 use Rattle.pixel.specs.Components.{component}
 use Rattle.gradient.specs.Nine.{Three, nine_in}
@@ -33,6 +33,10 @@ filling_from p e = rw e at p
 -- a buffer filled row by row, whose row y is lent from y * width on
 pub by_rows_first : {A : Type 0} {d : Size} {f : ℕ → ℕ → A} {o : List A} → area d ≤ length o → ByRows d 0 (0 * d.width) f o o
 by_rows_first {d = d} h = rw (zero-mul d.width) (by_rows_start h)
+
+-- a picture without columns has no row to fill
+pub by_rows_none : {A : Type 0} (d : Size) (f : ℕ → ℕ → A) (o : List A) → area d ≤ length o → d.width ≡ 0 → o ≡ filled (area d) (by_pixel d f) o
+by_rows_none d f o h e = let z : area d ≡ 0 = rw e (zero-mul d.height) in filling_end (by_rows_start {f = f} h).filling (omega (arith, z))
 
 pub by_rows_next : {A : Type 0} {d : Size} {f : ℕ → ℕ → A} {o l part : List A} {y : ℕ} → ByRows d y (y * d.width) f o l → y < d.height
     → part ≡ filled d.width (λ x. f x y) (mid_of (y * d.width) (y * d.width + d.width - y * d.width) l)

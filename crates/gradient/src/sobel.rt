@@ -100,6 +100,9 @@ fn byte_rows(pixels: &[u8], size: Size, border: BorderMode, out: &mut [u8])
     requires { Picture size pixels.now × (area size ≤ length out.old) }
     ensures { out.new ≡ painted size (sobel_at size border pixels.now) out.old }
 {
+    if size.width == 0 {
+        return;
+    }
     let ends = EndTable::new();
     for y in 0..size.height {
         let three = Three::about(pixels, size, border, y);

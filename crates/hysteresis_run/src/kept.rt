@@ -1,6 +1,7 @@
 // What the buffers hold before a call, and the lines of what they hold after it, beside numbers of the case.
 use cases::{Number, Row};
 use rules::{MARK_FINISHED, Walk};
+use scratch::count_of;
 use std::io;
 
 // An entry more than a picture of three by three has pixels.
@@ -46,5 +47,5 @@ pub(crate) fn state(rt: &impl Print, got: Walk, wanted: Walk) -> io::Result<()> 
 
 // How many pixels the walk has finished.
 pub(crate) fn finished(marks: &[u8]) -> usize {
-    marks.iter().filter(|mark| **mark == MARK_FINISHED).count()
+    count_of(marks, MARK_FINISHED, marks.len())
 }

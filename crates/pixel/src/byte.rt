@@ -4,7 +4,7 @@ ghost use Rattle.std.specs.Prelude.{◌≡◌, ◌≤◌, true};
 ghost use Rattle.rules.specs.Root.{upper_end, sobel_byte};
 ghost use Rattle.pixel.specs.Components.{nine_energy};
 ghost use Rattle.pixel.specs.Guess.{low_byte, byte_guess};
-ghost use Rattle.pixel.specs.Halving.{upper_ends, Ends, held, place_of};
+ghost use Rattle.pixel.specs.Halving.{upper_ends, Ends, Among, Halving, held, place_of};
 
 use crate::components::{energy, gx_of, gy_of};
 use crate::root::{first_guess, heron};
@@ -24,7 +24,7 @@ pub fn sum_of(nine: &[u8; 9]) -> u16
     held(energy(gx_of(nine), gy_of(nine)))
 }
 
-// ---- The byte of any S, by the table of upper ends: as many as there are ends below it.
+// ---- The byte of any S, by the table of upper ends: the 256 that it may be, halved eight times.
 
 // The table, to lend: the compiler puts it on the stack of whoever calls this.
 pub fn upper_ends() -> [u32; 255]
@@ -47,11 +47,31 @@ impl EndTable {
         EndTable { ends: upper_ends() }
     }
 
-    // The byte of any S.
+    // Of the 2 * b bytes from n on, the upper half if the end before it is below s, else the lower: told by its first.
+    fn half_by(&self, s: u32, n: usize, b: usize) -> usize
+        requires { Halving s n b }
+        ensures { Among s result b }
+    {
+        let m = n + b;
+        if self.ends[m - 1] < s {
+            return m;
+        }
+        n
+    }
+
+    // The byte of any S. Eight looks into the table, as docs/FIRMWARE.md counts them: `partition_point` takes nine.
     pub fn byte_of(&self, s: u32) -> u8
         ensures { result ≡ sobel_byte s }
     {
-        self.ends.partition_point(|end| *end < s) as u8
+        let mut n = self.half_by(s, 0, 128);
+        n = self.half_by(s, n, 64);
+        n = self.half_by(s, n, 32);
+        n = self.half_by(s, n, 16);
+        n = self.half_by(s, n, 8);
+        n = self.half_by(s, n, 4);
+        n = self.half_by(s, n, 2);
+        n = self.half_by(s, n, 1);
+        n as u8
     }
 
     // The end to test a byte by.

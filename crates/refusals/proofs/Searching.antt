@@ -1,11 +1,11 @@
 -- A search of a lent buffer's first entries is the definition's test of its indexes. Assumes nothing.
-use mathlib.Core.Path.{◌≡◌, refl, ◌∙◌}
+use mathlib.Core.Path.{◌≡◌, refl}
 use mathlib.Core.Bool.{Bool, true, false, ◌||◌}
 use mathlib.Core.List.{List, [], ◌∷◌}
 use Prim.Native.Nat.{ℕ, zero, suc, ◌≤◌}
 use native.Mathlib.Omega.{arith}
 use lib.ListN.{length, get_or, take}
-use Rattle.std.specs.List.{list_any, fold}
+use Rattle.std.specs.List.{list_any}
 use Rattle.rules.specs.Picture.{any_below}
 
 or_assoc : (a b c : Bool) → ((a || b) || c) ≡ (a || (b || c))
@@ -33,9 +33,3 @@ module _ {X : Type 0} (test : X → Bool) where
   unfolding any_below
   any_of_all [] d = refl
   any_of_all (x ∷ xs) d = rw (any_front (λ k. test (get_or (x ∷ xs) k d)) (length xs), any_of_all xs d) refl
-
-  -- the answer so far, entry by entry
-  pub fold_is_any : (a : Bool) (xs : List X) → fold (λ b x. b || test x) a xs ≡ (a || list_any test xs)
-  fold_is_any true [] = refl
-  fold_is_any false [] = refl
-  fold_is_any a (x ∷ xs) = fold_is_any (a || test x) xs ∙ or_assoc a (test x) (list_any test xs)

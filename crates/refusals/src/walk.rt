@@ -22,9 +22,11 @@ fn any_beyond(indexes: &[u32], n: usize) -> bool
 fn any_above(marks: &[u8]) -> bool
     ensures { result ≡ list_any (ltb 3) marks.now }
 {
-    marks
-        .iter()
-        .fold(false, |above, m| above | (MARK_FINISHED < *m))
+    let mut above = false;
+    for mark in marks {
+        above |= MARK_FINISHED < *mark;
+    }
+    above
 }
 
 // Row 9: a state is unusable (01.Walk.10). Its marks, stack and pending count come one by one, as the two calls are lent them: a record of
@@ -36,7 +38,7 @@ fn unusable_state(marks: &[u8], stack: &[u32], pending: usize, size: Size) -> bo
     let n = size.width * size.height;
     n < pending
         || (any_beyond(&stack[..pending], n)
-            | (any_above(&marks[..n]) | (n < pending + count_of(marks, MARK_WEAK, n))))
+            || (any_above(&marks[..n]) || n < pending + count_of(marks, MARK_WEAK, n)))
 }
 
 pub fn of_start(

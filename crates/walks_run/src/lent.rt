@@ -3,6 +3,7 @@
 use cases::{Line, ROOM, lines};
 use kelontsira::walk::{kelontsira_map, kelontsira_slice, kelontsira_start};
 use rules::{MARK_FINISHED, Thresholds, Walk};
+use scratch::count_of;
 use std::io;
 
 // What a case lends to the walk.
@@ -73,7 +74,7 @@ impl Lent<'_> {
 
     // How many pixels have a mark.
     pub(crate) fn marked(&self, mark: u8) -> usize {
-        self.marks.iter().filter(|entry| **entry == mark).count()
+        count_of(self.marks, mark, self.marks.len())
     }
 
     pub(crate) fn finished(&self) -> usize {

@@ -1,12 +1,16 @@
 -- `byte_rows` meets its contract, row by row. Assumes nothing.
 use Rattle.std.proofs.Common.{refl, sym, ◌∙◌}
 use Rattle.rules.specs.Root.{sobel_byte}
+use Rattle.rules.specs.Calls.{sobel_at}
 use Rattle.rules.proofs.ByRows.{row_long}
 use Rattle.pixel.specs.Components.{nine_energy}
 use Rattle.pixel.specs.Halving.{held}
 use Rattle.gradient.proofs.Nines.{byte_about, about_row, row_is}
-use Rattle.gradient.proofs.Rows.{by_rows_first, by_rows_next}
+use Rattle.gradient.proofs.Rows.{by_rows_none, by_rows_first, by_rows_next}
 use Rattle.gradient.proofs.sobel.byte_rows.Goals as goal
+
+pub returns-then-size-eq0 : goal.returns-then-size-eq0
+returns-then-size-eq0 c = let a = c.args in by_rows_none a.size (sobel_at a.size a.border a.pixels.now) a.out.now c.requires.1 c.if-size-eq0.true
 
 pub loop-y-init : goal.loop-y-init
 loop-y-init c = by_rows_first c.requires.1

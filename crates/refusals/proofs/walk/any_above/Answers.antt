@@ -1,17 +1,18 @@
 -- `any_above` is the test of each mark: its answer so far, mark by mark. Assumes nothing.
-use mathlib.Core.Path.{◌≡◌, ◌∙◌}
-use mathlib.Core.Bool.{false, ◌||◌}
+use native.Mathlib.Omega.{arith}
+use mathlib.Core.Path.{refl, sym, ap, ◌∙◌}
 use lib.Dec.{ltb}
-use borrow.Author.Rules.{rules}
-use borrow.Author.Tests.{tests}
-use Rattle.std.specs.List.{fold}
-use Rattle.std.proofs.lemmas.Iterator.{YieldsList-from_slice}
-use Rattle.std.proofs.lemmas.Iterator.Consumers.{fold_from_yields_List}
-use Rattle.refusals.proofs.Searching.{fold_is_any}
+use Rattle.rules.specs.Picture.{any_below}
+use Rattle.rules.proofs.Tests.{any_more}
+use Rattle.refusals.proofs.Searching.{any_of_all}
 use Rattle.refusals.proofs.walk.any_above.Goals as goal
 
+pub loop-mark-init : goal.loop-mark-init
+unfolding any_below
+loop-mark-init c = refl
+
+pub loop-mark-preserved : goal.loop-mark-preserved
+loop-mark-preserved c = any_more _ _ _ _ c.loop-mark.invariant refl
+
 pub returns : goal.returns
-returns c =
-    let xs = c.args.marks.now in
-    let r : c.fold.result ≡ fold (λ b m. b || ltb 3 m) false xs = fold_from_yields_List _ (λ b m. b || ltb 3 m) _ _ c.fold.ensures.ran (YieldsList-from_slice xs cc) (λ a x b q k. search (rules, tests)) in
-    r ∙ fold_is_any (ltb 3) false xs
+returns c = c.loop-mark.invariant ∙ ap (any_below _) (omega arith) ∙ sym (any_of_all (ltb 3) c.args.marks.now 0)

@@ -9,4 +9,4 @@ abbrev pub invariant-loop-k : goal.invariant-loop-k
 invariant-loop-k g l =
     let s = g.T.Sample in
     let c = l.fn.self in
-    Filling c.size.width (min (l.k * 128) c.size.width) (λ x. to_byte (sum_at s.value s.missing c.samples.now c.size c.kernel c.weights.now c.border x l.fn.y)) l.initial.row l.row
+    Filling c.size.width (min (l.k * 108) c.size.width) (λ x. to_byte (sum_at s.value s.missing c.samples.now c.size c.kernel c.weights.now c.border x l.fn.y)) l.initial.row l.row
